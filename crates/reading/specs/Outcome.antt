@@ -1,0 +1,6 @@
+-- How a call ends: refused by one of 01's numbers, or accepted with a value.
+use Prim.Native.Nat.{ℕ}
+
+pub data Outcome (A : Type 0) : Type 0 where
+  refused : ℕ → Outcome A
+  accepted : A → Outcome A
