@@ -4,3 +4,8 @@ use Prim.Native.Nat.{ℕ}
 pub data Outcome (A : Type 0) : Type 0 where
   refused : ℕ → Outcome A
   accepted : A → Outcome A
+
+-- the number of a refusal, and 0 for an accepted call
+abbrev pub numberOf : {A : Type 0} → Outcome A → ℕ
+numberOf (refused n) = n
+numberOf (accepted a) = 0
