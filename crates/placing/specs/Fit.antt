@@ -15,26 +15,30 @@ unfoldable pub axisFits : ℕ → ℕ → ℕ → Bool
 axisFits side center frame = leb (halfUp side) center && leb (center + halfUp side) frame
 
 -- "a zero side", of a frame or of an area
-unfoldable pub zeroSide : Size → Bool
-zeroSide s = eqb (s .width) 0 || eqb (s .height) 0
+unfoldable pub hasZeroSide : Size → Bool
+hasZeroSide s = eqb (s .width) 0 || eqb (s .height) 0
 
 -- "A centre lies on a frame of no zero side if no coordinate is below 0 or over its side."
 unfoldable pub centerLiesOn : Size → Point → Bool
-centerLiesOn f c = not (zeroSide f) && (leb (c .x) (f .width) && leb (c .y) (f .height))
+centerLiesOn f c = not (hasZeroSide f) && (leb (c .x) (f .width) && leb (c .y) (f .height))
 
 -- "An area fits if neither side is zero and, on each axis," its side fits around the centre
 unfoldable pub areaFits : Size → Point → Size → Bool
 areaFits f c a =
-    not (zeroSide a) && (axisFits (a .width) (c .x) (f .width) && axisFits (a .height) (c .y) (f .height))
+    not (hasZeroSide a) && (axisFits (a .width) (c .x) (f .width) && axisFits (a .height) (c .y) (f .height))
 
--- "both 0 without area"
+-- "width, height (both 0 without area)"
 unfoldable pub noArea : Size → Bool
 noArea a = eqb (a .width) 0 && eqb (a .height) 0
 
--- "A point fits if its centre lies on the frame and its area, if it has one, fits": by its parts
-unfoldable pub liesOn : Size → Point → Size → Bool
-liesOn f c a = centerLiesOn f c && (noArea a || areaFits f c a)
+-- "its area, if it has one, fits"
+abbrev pub areaIfAnyFits : Size → Point → Size → Bool
+areaIfAnyFits f c a = noArea a || areaFits f c a
 
--- the same of a whole point
+-- "A point fits if its centre lies on the frame and its area, if it has one, fits": of a center and a size
+unfoldable pub liesOn : Size → Point → Size → Bool
+liesOn f c a = centerLiesOn f c && areaIfAnyFits f c a
+
+-- the same of a point
 unfoldable pub pointFits : Size → FocusPoint → Bool
 pointFits f p = liesOn f (p .center) (p .size)

@@ -1,10 +1,12 @@
--- What scaling keeps, stated on one axis over plain numbers and then for a point. The proofs are those of proofs/Scaled.antt.
-use Prim.Native.Nat.{ℕ, _+_, _*_, _≤_, _<_}
+-- Laws of fitting and scaling: first on one axis, over plain numbers, then for both axes. Here are the statements; proofs/Scaling.antt,
+-- Fitting.antt and Scaled.antt have the proofs.
+use Prim.Native.Nat.{ℕ, _+_, _*_, _-_, _≤_, _<_}
 use mathlib.Core.Bool.{true, false}
 use mathlib.Core.Path.{_≡_}
 use Rattle.reading.specs.declared.geometry.Size.{Size}
+use Rattle.reading.specs.declared.geometry.Point.{Point}
 use Rattle.placing.specs.declared.focus.FocusPoint.{FocusPoint}
-use Rattle.placing.specs.Fit.{axisFits, zeroSide, pointFits}
+use Rattle.placing.specs.Fit.{halfUp, axisFits, hasZeroSide, centerLiesOn, areaFits, noArea, liesOn, pointFits}
 use Rattle.placing.specs.Scale.{scaleOf, trimOf, scaledPoint}
 
 -- "Half a pixel means: 2 × |result × old − v × new| ≤ old": neither product is over the other by more
@@ -16,7 +18,7 @@ pub record HalfPixel (v old new result : ℕ) : Type 0 where
 abbrev pub ScalesToNearest : Type 0
 ScalesToNearest = (v old new : ℕ) → 0 < old → v ≤ old → new ≤ 4294967295 → HalfPixel v old new (scaleOf v old new)
 
--- a center on the old side is scaled onto the new one
+-- and it lies on the new side
 abbrev pub ScalesInside : Type 0
 ScalesInside = (v old new : ℕ) → 0 < old → v ≤ old → scaleOf v old new ≤ new
 
@@ -24,6 +26,33 @@ ScalesInside = (v old new : ℕ) → 0 < old → v ≤ old → scaleOf v old new
 abbrev pub TrimFits : Type 0
 TrimFits = (side center frame : ℕ) → (trimOf side center frame ≡ 0 → ⊥) → axisFits (trimOf side center frame) center frame ≡ true
 
--- a point that fits a frame fits every frame of no zero side that it is scaled to
+-- a side that fits around a center fits around it seen from the other end
+abbrev pub AxisMirrored : Type 0
+AxisMirrored = (side center frame : ℕ) → axisFits side center frame ≡ true → axisFits side (frame - center) frame ≡ true
+
+-- what the test centerLiesOn tells
+pub record OnFrame (f : Size) (c : Point) : Type 0 where
+  pub wide : 0 < f .width
+  pub high : 0 < f .height
+  pub across : c .x ≤ f .width
+  pub down : c .y ≤ f .height
+
+-- a point that fits has its center on the frame
+abbrev pub FitsOnFrame : Type 0
+FitsOnFrame = (f : Size) (p : FocusPoint) → pointFits f p ≡ true → OnFrame f (p .center)
+
+-- seen from the right edge a point still fits
+abbrev pub FitsMirrored : Type 0
+FitsMirrored =
+    (f : Size) (c : Point) (a : Size) → liesOn f c a ≡ true → liesOn f (record { x = f .width - c .x; y = c .y }) a ≡ true
+
+-- with width and height, x and y exchanged a point still fits
+abbrev pub FitsSwapped : Type 0
+FitsSwapped =
+    (f : Size) (c : Point) (a : Size) → liesOn f c a ≡ true
+    → liesOn (record { width = f .height; height = f .width }) (record { x = c .y; y = c .x }) (record { width = a .height; height = a .width }) ≡ true
+
+-- a point that fits a frame, scaled to any frame of no zero side, fits that
 abbrev pub ScaledFits : Type 0
-ScaledFits = (p : FocusPoint) (old new : Size) → pointFits old p ≡ true → zeroSide new ≡ false → pointFits new (scaledPoint p old new) ≡ true
+ScaledFits =
+    (p : FocusPoint) (old new : Size) → pointFits old p ≡ true → hasZeroSide new ≡ false → pointFits new (scaledPoint p old new) ≡ true

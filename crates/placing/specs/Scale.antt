@@ -4,7 +4,7 @@ use mathlib.Core.Bool.{cond}
 use Rattle.reading.specs.declared.geometry.Size.{Size}
 use Rattle.reading.specs.declared.geometry.Point.{Point}
 use Rattle.placing.specs.declared.focus.FocusPoint.{FocusPoint}
-use Rattle.placing.specs.Fit.{zeroSide, noArea}
+use Rattle.placing.specs.Fit.{hasZeroSide, noArea}
 
 -- "scale(v, old, new) = floor((v × new + floor(old/2)) / old), at most 4,294,967,295"; where old is 0 a division gives 0
 unfoldable pub scaleOf : ℕ → ℕ → ℕ → ℕ
@@ -31,17 +31,13 @@ scaledArea a c old new =
       height = scaledSide (a .height) (c .y) (old .height) (new .height);
     }
 
--- no area
-abbrev pub noSize : Size
-noSize = record { width = 0; height = 0 }
-
--- "drops the area if a side is then 0"
+-- "drops the area if a side is then 0": an area that is dropped has the size 0 by 0
 unfoldable pub keptArea : Size → Size
-keptArea a = cond (zeroSide a) noSize a
+keptArea a = cond (hasZeroSide a) (record { width = 0; height = 0 }) a
 
--- "its area, if it has one"
+-- a point's size, where a size of no area stays
 unfoldable pub scaledSize : Size → Point → Size → Size → Size
-scaledSize a c old new = cond (noArea a) noSize (keptArea (scaledArea a c old new))
+scaledSize a c old new = cond (noArea a) a (keptArea (scaledArea a c old new))
 
 -- "Scaling a point scales its centre and sides, raises each side to 1, trims it to twice the nearer of centre and frame − centre,
 -- and drops the area if a side is then 0."

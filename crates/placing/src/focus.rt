@@ -1,8 +1,8 @@
 // When a point lies on a frame, and a point measured in another frame.
 ghost use mathlib.Core.Path.{_≡_};
-ghost use Prim.Native.Nat.{ℕ, min, max};
-ghost use Rattle.placing.specs.Fit.{halfUp, axisFits, zeroSide, centerLiesOn, areaFits, noArea, liesOn, pointFits};
-ghost use Rattle.placing.specs.Scale.{scaleOf, trimOf, scaledSide, scaledCenter, scaledArea, keptArea, scaledSize, scaledPoint};
+ghost use Prim.Native.Nat.{min, max};
+ghost use Rattle.placing.specs.Fit.{halfUp, axisFits, hasZeroSide, centerLiesOn, areaFits, noArea, liesOn, pointFits};
+ghost use Rattle.placing.specs.Scale.{scaleOf, trimOf, scaledSide, scaledCenter, scaledSize, scaledPoint};
 use reading::focus::InFocus;
 use reading::geometry::Point;
 use reading::geometry::Size;
@@ -15,6 +15,7 @@ pub struct FocusPoint {
     pub in_focus: InFocus,
 }
 
+// Half a side, rounded up.
 fn half_up(side: u32) -> u32
     ensures { λ r. ⌜ r ≡ halfUp side ⌝ }
 {
@@ -30,8 +31,8 @@ pub fn axis_fits(side: u32, center: u32, frame: u32) -> bool
 }
 
 // Whether a size has no width or no height.
-pub fn zero_side(size: Size) -> bool
-    ensures { λ r. ⌜ r ≡ zeroSide size ⌝ }
+pub fn has_zero_side(size: Size) -> bool
+    ensures { λ r. ⌜ r ≡ hasZeroSide size ⌝ }
 {
     size.width == 0 || size.height == 0
 }
@@ -47,7 +48,7 @@ pub fn no_area(size: Size) -> bool
 pub fn center_lies_on(frame: Size, center: Point) -> bool
     ensures { λ r. ⌜ r ≡ centerLiesOn frame center ⌝ }
 {
-    if zero_side(frame) {
+    if has_zero_side(frame) {
         return false;
     }
     center.x <= frame.width && center.y <= frame.height
@@ -57,7 +58,7 @@ pub fn center_lies_on(frame: Size, center: Point) -> bool
 pub fn area_lies_on(frame: Size, center: Point, size: Size) -> bool
     ensures { λ r. ⌜ r ≡ areaFits frame center size ⌝ }
 {
-    if zero_side(size) {
+    if has_zero_side(size) {
         return false;
     }
     axis_fits(size.width, center.x, frame.width) && axis_fits(size.height, center.y, frame.height)
@@ -92,6 +93,7 @@ pub fn scale(value: u32, old: u32, new: u32) -> u32
     lesser(scaled, 4294967295) as u32
 }
 
+// The lesser of two numbers.
 fn lesser(a: u64, b: u64) -> u64
     ensures { λ r. ⌜ r ≡ min a b ⌝ }
 {
@@ -110,6 +112,7 @@ pub fn trim(side: u32, center: u32, frame: u32) -> u32
     lesser(side as u64, 2 * nearer) as u32
 }
 
+// A side that is 0, raised to one pixel.
 fn at_least_one(side: u32) -> u32
     ensures { λ r. ⌜ r ≡ max side 1 ⌝ }
 {
@@ -117,13 +120,14 @@ fn at_least_one(side: u32) -> u32
 }
 
 // An area's `side` on one axis, measured in another frame: at least one pixel, then trimmed around the scaled `center`.
-pub fn scaled_side(side: u32, center: u32, old: u32, new: u32) -> u32
+fn scaled_side(side: u32, center: u32, old: u32, new: u32) -> u32
     ensures { λ r. ⌜ r ≡ scaledSide side center old new ⌝ }
 {
     let scaled = scale(side, old, new);
     trim(at_least_one(scaled), center, new)
 }
 
+// A center of the frame `old`, measured in the frame `new`.
 fn scaled_center(center: Point, old: Size, new: Size) -> Point
     ensures { λ r. ⌜ r ≡ scaledCenter center old new ⌝ }
 {
@@ -133,23 +137,22 @@ fn scaled_center(center: Point, old: Size, new: Size) -> Point
     }
 }
 
-// A point's area, measured in another frame around the scaled `center`: none where a side has no room.
+// A point's size, measured in another frame around the scaled `center`: none where a side has no room.
 fn scaled_size(size: Size, center: Point, old: Size, new: Size) -> Size
     ensures { λ r. ⌜ r ≡ scaledSize size center old new ⌝ }
 {
-    let none = Size {
-        width: 0,
-        height: 0,
-    };
     if no_area(size) {
-        return none;
+        return size;
     }
     let area = Size {
         width: scaled_side(size.width, center.x, old.width, new.width),
         height: scaled_side(size.height, center.y, old.height, new.height),
     };
-    if zero_side(area) {
-        return none;
+    if has_zero_side(area) {
+        return Size {
+            width: 0,
+            height: 0,
+        };
     }
     area
 }

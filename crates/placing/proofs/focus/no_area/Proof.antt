@@ -1,16 +1,13 @@
-use borrow.Author.Tests.{le-leb, lt-leb, eq-eqb, ne-eqb}
+-- `no_area` meets its contract: each arm of the test is a case of the definition. Assumes nothing.
+use borrow.Author.Tests.{eq-eqb, ne-eqb}
 use Rattle.placing.specs.Fit.{noArea}
 use Rattle.placing.proofs.focus.no_area.Statement.{statement}
 use Rattle.placing.proofs.focus.no_area.Tie as tie
-use Rattle.placing.proofs.focus.no_area.Reads as reads
-use Rattle.placing.proofs.focus.no_area.Lts as lts
 
--- src/focus.rt:40:1
 returns : tie.Need-returns
 unfolding noArea
 returns c = simp (eq-eqb _ _ (c .before .if1 .taken))
 
--- src/focus.rt:40:1
 returns-2 : tie.Need-returns-2
 unfolding noArea
 returns-2 c = simp (ne-eqb _ _ (c .if1 .left))
