@@ -1,17 +1,16 @@
 -- What the tests of Fit tell, and that a point still fits when it is mirrored or its axes are exchanged. The idea: a test that is true
 -- is turned into facts on the numbers, and facts back into a test. Assumes nothing.
 use Prim.Native.Nat.{ℕ, _+_, _-_, _≤_, _<_}
-use mathlib.Core.Path.{_≡_, refl, sym, _∙_}
-use mathlib.Core.Bool.{Bool, true, false, _&&_, _||_, not, and-comm, or-comm, false≢true}
+use mathlib.Core.Path.{_≡_, _∙_}
+use mathlib.Core.Bool.{true, false, _&&_, not, and-comm, or-comm}
 use native.Mathlib.Omega.{arith}
 use lib.Dec.{leb, eqb}
-use borrow.Author.Tests.{le-leb, leb-true, eq-eqb, ne-eqb, eqb-false, not-true}
+use borrow.Author.Tests.{le-leb, leb-true, ne-eqb, eqb-false, not-true}
 use Rattle.reading.specs.declared.geometry.Size.{Size}
 use Rattle.reading.specs.declared.geometry.Point.{Point}
-use Rattle.placing.specs.declared.focus.FocusPoint.{FocusPoint}
 use Rattle.placing.specs.Fit.{halfUp, axisFits, hasZeroSide, centerLiesOn, areaFits, noArea, areaIfAnyFits, liesOn, pointFits}
 use Rattle.placing.proofs.Booleans.{both, and-of, neither, or-map}
-use Rattle.placing.specs.Laws.{OnFrame, AxisMirrored, FitsOnFrame, FitsMirrored, FitsSwapped}
+use Rattle.placing.specs.Laws.{OnFrame, AxisMirrored, FitsOnFrame, FitsMirrored, swapped, FitsSwapped}
 
 pub some-width : (s : Size) → hasZeroSide s ≡ false → s .width ≡ 0 → ⊥
 unfolding hasZeroSide
@@ -105,9 +104,6 @@ fits-mirrored f c a e =
     lies-of f m a
     (record { wide = o .wide; high = o .high; across = omega arith; down = o .down })
     (or-map (noArea a) (areaFits f c a) (areaFits f m a) (λ k. on-area f m a (moved (area-on f c a k))) (area-of f c a e))
-
-abbrev swapped : Size → Size
-swapped s = record { width = s .height; height = s .width }
 
 no-area-swapped : (a : Size) → noArea (swapped a) ≡ noArea a
 unfolding noArea

@@ -1,7 +1,7 @@
--- A point that fits a frame, scaled to a frame of no zero side, fits that: its center by `scales-inside` on each axis, an area that is
--- kept by `trim-fits` on each axis. Assumes nothing.
-use Prim.Native.Nat.{ℕ, _≤_, _<_, max}
-use mathlib.Core.Path.{_≡_, refl, sym, _∙_}
+-- A point that fits a frame, scaled to a frame of no zero side, fits that, and its center is within half a pixel. The idea: the laws
+-- of one axis, once across and once down. Assumes nothing.
+use Prim.Native.Nat.{ℕ, max}
+use mathlib.Core.Path.{_≡_, refl}
 use mathlib.Core.Bool.{Bool, true, false, cond}
 use native.Mathlib.Omega.{arith}
 use Rattle.reading.specs.declared.geometry.Size.{Size}
@@ -9,10 +9,10 @@ use Rattle.reading.specs.declared.geometry.Point.{Point}
 use Rattle.placing.specs.declared.focus.FocusPoint.{FocusPoint}
 use Rattle.placing.specs.Fit.{axisFits, hasZeroSide, areaFits, noArea, areaIfAnyFits, pointFits}
 use Rattle.placing.specs.Scale.{scaleOf, scaledSide, scaledCenter, scaledArea, keptArea, scaledSize, scaledPoint}
-use Rattle.placing.specs.Laws.{OnFrame, ScaledFits}
+use Rattle.placing.specs.Laws.{OnFrame, ScaledFits, ScaledNear}
 use Rattle.placing.proofs.Booleans.{or-first, or-second}
-use Rattle.placing.proofs.Fitting.{some-width, some-height, center-on, on-area, center-of, lies-of}
-use Rattle.placing.proofs.Scaling.{scales-inside, trim-fits}
+use Rattle.placing.proofs.Fitting.{some-width, some-height, on-area, lies-of, fits-on-frame}
+use Rattle.placing.proofs.Scaling.{scales-inside, scales-to-nearest, trim-fits}
 
 pub center-scaled : (c : Point) (old new : Size) → OnFrame old c → hasZeroSide new ≡ false → OnFrame new (scaledCenter c old new)
 unfolding scaledCenter
@@ -48,7 +48,8 @@ module _ (f : Size) (c : Point) (a b : Size) where
   chosen true p q = p refl
   chosen false p q = q refl
 
-pub kept : (f : Size) (c : Point) (a : Size) → (hasZeroSide a ≡ false → areaFits f c a ≡ true) → areaIfAnyFits f c (keptArea a) ≡ true
+pub kept : (f : Size) (c : Point) (a : Size) → (hasZeroSide a ≡ false → areaFits f c a ≡ true)
+    → areaIfAnyFits f c (keptArea a) ≡ true
 unfolding keptArea noArea
 kept f c a k =
     chosen f c (record { width = 0; height = 0 }) a (hasZeroSide a) (λ z. refl)
@@ -66,10 +67,18 @@ pub scaled-fits : ScaledFits
 unfolding pointFits scaledPoint
 scaled-fits p old new e z =
     let c = scaledCenter (p .center) old new in
-    let o = center-on old (p .center) (center-of old (p .center) (p .size) e) in
     lies-of new c (scaledSize (p .size) c old new)
-    (center-scaled (p .center) old new o z)
+    (center-scaled (p .center) old new (fits-on-frame old p e) z)
     (size-scaled (p .size) c old new)
+
+pub scaled-near : ScaledNear
+unfolding scaledPoint scaledCenter
+scaled-near p old new e w h =
+    let o = fits-on-frame old p e in
+    record {
+      across = scales-to-nearest (p .center .x) (old .width) (new .width) (o .wide) (o .across) w;
+      down = scales-to-nearest (p .center .y) (old .height) (new .height) (o .high) (o .down) h;
+    }
 
 -- what scaling leaves alone
 pub scaled-number : (p : FocusPoint) (old new : Size) → scaledPoint p old new .number ≡ p .number

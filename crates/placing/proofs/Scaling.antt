@@ -1,9 +1,8 @@
 -- One axis: scaling rounds to the nearest pixel and stays on the new side, and a trimmed side fits around its center. The idea: the
 -- quotient's two bounds are linear once the products are taken as numbers of their own. Assumes nothing.
-use mathlib.Core.Path.{_≡_, refl, _∙_, sym, subst}
-use mathlib.Core.Bool.{true, false}
-use Prim.Native.Nat.{ℕ, _+_, _*_, _-_, _/_, _≤_, _<_, min}
-use native.Mathlib.Nat.{mul-le-mul, mul-le-mul-right, div-mul-le-self, lt-div-mul-add, lt-of-mul-lt-mul-right, mul-comm, add-mul, one-mul, min-eq-left, min-eq-right, div-zero}
+use mathlib.Core.Path.{_≡_, sym, subst}
+use Prim.Native.Nat.{ℕ, _+_, _*_, _/_, _≤_, _<_}
+use native.Mathlib.Nat.{mul-le-mul, mul-le-mul-right, div-mul-le-self, lt-div-mul-add, lt-of-mul-lt-mul-right, mul-comm, add-mul, one-mul, min-eq-left, div-zero}
 use native.Mathlib.Omega.{arith}
 use borrow.Author.Tests.{le-leb}
 use Rattle.placing.specs.Fit.{halfUp, axisFits}
@@ -48,14 +47,18 @@ pub scales-inside : ScalesInside
 unfolding scaleOf
 scales-inside v old new pos h = omega (arith, inside v old new pos h)
 
--- the cap is not reached
-pub scales-uncapped : (v old new : ℕ) → 0 < old → v ≤ old → new ≤ 4294967295 → scaleOf v old new ≡ (v * new + old / 2) / old
+pub scale-capped : (v old new : ℕ) → scaleOf v old new ≤ 4294967295
 unfolding scaleOf
-scales-uncapped v old new pos h k = min-eq-left (let i : quotient v old new ≤ new = inside v old new pos h in omega arith)
+scale-capped v old new = omega arith
+
+-- of a value on the old side, the cap is not reached
+pub scale-uncapped : (v old new : ℕ) → 0 < old → v ≤ old → new ≤ 4294967295 → scaleOf v old new ≡ (v * new + old / 2) / old
+unfolding scaleOf
+scale-uncapped v old new pos h k = min-eq-left (let i : quotient v old new ≤ new = inside v old new pos h in omega arith)
 
 pub scales-to-nearest : ScalesToNearest
 scales-to-nearest v old new pos h k =
-    subst (HalfPixel v old new) (sym (scales-uncapped v old new pos h k)) (half v old new pos)
+    subst (HalfPixel v old new) (sym (scale-uncapped v old new pos h k)) (half v old new pos)
 
 pub trim-fits : TrimFits
 unfolding axisFits trimOf

@@ -6,7 +6,7 @@ use mathlib.Core.Path.{_≡_}
 use Rattle.reading.specs.declared.geometry.Size.{Size}
 use Rattle.reading.specs.declared.geometry.Point.{Point}
 use Rattle.placing.specs.declared.focus.FocusPoint.{FocusPoint}
-use Rattle.placing.specs.Fit.{halfUp, axisFits, hasZeroSide, centerLiesOn, areaFits, noArea, liesOn, pointFits}
+use Rattle.placing.specs.Fit.{axisFits, hasZeroSide, liesOn, pointFits}
 use Rattle.placing.specs.Scale.{scaleOf, trimOf, scaledPoint}
 
 -- "Half a pixel means: 2 × |result × old − v × new| ≤ old": neither product is over the other by more
@@ -24,7 +24,8 @@ ScalesInside = (v old new : ℕ) → 0 < old → v ≤ old → scaleOf v old new
 
 -- a side that trimming leaves fits around its center
 abbrev pub TrimFits : Type 0
-TrimFits = (side center frame : ℕ) → (trimOf side center frame ≡ 0 → ⊥) → axisFits (trimOf side center frame) center frame ≡ true
+TrimFits =
+    (side center frame : ℕ) → (trimOf side center frame ≡ 0 → ⊥) → axisFits (trimOf side center frame) center frame ≡ true
 
 -- a side that fits around a center fits around it seen from the other end
 abbrev pub AxisMirrored : Type 0
@@ -46,13 +47,28 @@ abbrev pub FitsMirrored : Type 0
 FitsMirrored =
     (f : Size) (c : Point) (a : Size) → liesOn f c a ≡ true → liesOn f (record { x = f .width - c .x; y = c .y }) a ≡ true
 
--- with width and height, x and y exchanged a point still fits
+-- a frame or an area with its sides exchanged
+abbrev pub swapped : Size → Size
+swapped s = record { width = s .height; height = s .width }
+
+-- with the axes exchanged a point still fits
 abbrev pub FitsSwapped : Type 0
 FitsSwapped =
-    (f : Size) (c : Point) (a : Size) → liesOn f c a ≡ true
-    → liesOn (record { width = f .height; height = f .width }) (record { x = c .y; y = c .x }) (record { width = a .height; height = a .width }) ≡ true
+    (f : Size) (c : Point) (a : Size) → liesOn f c a ≡ true → liesOn (swapped f) (record { x = c .y; y = c .x }) (swapped a) ≡ true
 
 -- a point that fits a frame, scaled to any frame of no zero side, fits that
 abbrev pub ScaledFits : Type 0
 ScaledFits =
-    (p : FocusPoint) (old new : Size) → pointFits old p ≡ true → hasZeroSide new ≡ false → pointFits new (scaledPoint p old new) ≡ true
+    (p : FocusPoint) (old new : Size) → pointFits old p ≡ true → hasZeroSide new ≡ false
+    → pointFits new (scaledPoint p old new) ≡ true
+
+-- on both axes a point is within half a pixel of a center that was scaled
+pub record CenterNear (c : Point) (old new : Size) (result : Point) : Type 0 where
+  pub across : HalfPixel (c .x) (old .width) (new .width) (result .x)
+  pub down : HalfPixel (c .y) (old .height) (new .height) (result .y)
+
+-- a point that fits a frame is scaled to within half a pixel
+abbrev pub ScaledNear : Type 0
+ScaledNear =
+    (p : FocusPoint) (old new : Size) → pointFits old p ≡ true → new .width ≤ 4294967295 → new .height ≤ 4294967295
+    → CenterNear (p .center) old new (scaledPoint p old new .center)

@@ -1,4 +1,4 @@
--- `axis_fits` meets its contract: the half is the definition's, and each arm of the test one of its cases. The sum is in 64 bits, so exact. Assumes nothing.
+-- `axis_fits` meets its contract: the half is the definition's, and each arm of the test one of its cases. Assumes nothing.
 use borrow.Author.Tests.{le-leb, lt-leb}
 use borrow.Author.Needs.{needs}
 use Rattle.placing.specs.Fit.{axisFits}

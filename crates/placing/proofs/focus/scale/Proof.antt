@@ -1,4 +1,5 @@
--- `scale` meets its contract: a product of two 32-bit numbers and a half of a third fit 64 bits, and the cap is the definition's. Assumes nothing.
+-- `scale` meets its contract: a product of two 32-bit numbers and half a third fit 64 bits, and the cap is the definition's.
+-- Assumes nothing.
 use native.Mathlib.Omega.{arith}
 use borrow.Author.Needs.{needs}
 use Rattle.placing.specs.Scale.{scaleOf}
