@@ -22,7 +22,7 @@ hasZeroSide s = eqb (s .width) 0 || eqb (s .height) 0
 unfoldable pub centerLiesOn : Size → Point → Bool
 centerLiesOn f c = not (hasZeroSide f) && (leb (c .x) (f .width) && leb (c .y) (f .height))
 
--- "An area fits if neither side is zero and, on each axis," its side fits around the centre
+-- "An area fits if neither side is zero and, on each axis," its side fits around the center
 unfoldable pub areaFits : Size → Point → Size → Bool
 areaFits f c a =
     not (hasZeroSide a) && (axisFits (a .width) (c .x) (f .width) && axisFits (a .height) (c .y) (f .height))

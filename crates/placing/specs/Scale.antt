@@ -6,7 +6,8 @@ use Rattle.reading.specs.declared.geometry.Point.{Point}
 use Rattle.placing.specs.declared.focus.FocusPoint.{FocusPoint}
 use Rattle.placing.specs.Fit.{hasZeroSide, noArea}
 
--- "scale(v, old, new) = floor((v × new + floor(old/2)) / old), at most 4,294,967,295"; where old is 0 a division gives 0
+-- "scale(v, old, new) = floor((v × new + floor(old/2)) / old), at most 4,294,967,295". A division by 0 is 0, and so is
+-- scale from a side of 0
 unfoldable pub scaleOf : ℕ → ℕ → ℕ → ℕ
 scaleOf v old new = min ((v * new + old / 2) / old) 4294967295
 
@@ -14,7 +15,7 @@ scaleOf v old new = min ((v * new + old / 2) / old) 4294967295
 unfoldable pub trimOf : ℕ → ℕ → ℕ → ℕ
 trimOf side center frame = min side (2 * min center (frame - center))
 
--- an area's side on one axis: scaled, "raises each side to 1, trims it" around the scaled centre
+-- an area's side on one axis: scaled, "raises each side to 1, trims it" around a center that is scaled already
 unfoldable pub scaledSide : ℕ → ℕ → ℕ → ℕ → ℕ
 scaledSide side center old new = trimOf (max (scaleOf side old new) 1) center new
 
@@ -23,7 +24,7 @@ unfoldable pub scaledCenter : Point → Size → Size → Point
 scaledCenter c old new =
     record { x = scaleOf (c .x) (old .width) (new .width); y = scaleOf (c .y) (old .height) (new .height) }
 
--- an area's sides, around the scaled centre
+-- an area on both axes, around a center that is scaled already
 unfoldable pub scaledArea : Size → Point → Size → Size → Size
 scaledArea a c old new =
     record {
@@ -35,7 +36,7 @@ scaledArea a c old new =
 unfoldable pub keptArea : Size → Size
 keptArea a = cond (hasZeroSide a) (record { width = 0; height = 0 }) a
 
--- a point's size, where a size of no area stays
+-- a point's size: no area stays none, an area is scaled and may be dropped
 unfoldable pub scaledSize : Size → Point → Size → Size → Size
 scaledSize a c old new = cond (noArea a) a (keptArea (scaledArea a c old new))
 
