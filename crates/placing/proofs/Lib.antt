@@ -1,0 +1,5 @@
+pub mod Booleans
+pub mod Fitting
+pub mod Scaling
+pub mod Scaled
+pub mod Examples
