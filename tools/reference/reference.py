@@ -1,0 +1,719 @@
+#!/usr/bin/env python3
+"""The written rules of the picture sheet, read once more in plain Python.
+
+This file was written from the specification's text alone, so that it can
+disagree with the Rust library and with the proved program. It favours being
+read over being fast. Only the table of 39 points is copied from the source.
+
+  reference.py < SCRIPT          print what `focusdesk` prints for a script
+  reference.py --loads < LOADS   print one answer a load line (RAW PICTURE
+                                 MODELHEX BLOCKHEX), as tools/oracle does,
+                                 but with `no N` for a refusal
+  reference.py --self-test       the specification's own examples
+
+Sizes are pairs (width, height); a missing size is None. A point is the six
+numbers that `list` writes: number, x, y, width, height, in-focus.
+"""
+
+import sys
+from collections import namedtuple
+
+Point = namedtuple("Point", "number x y width height in_focus")
+Placed = namedtuple("Placed", "frame points primary mode origin")
+Crop = namedtuple("Crop", "mode original cropped left top")
+Record = namedtuple("Record", "frame centre area in_focus mode names")
+Names = namedtuple("Names", "layout primary mask")
+Listing = namedtuple("Listing", "frame count primary mode origin")
+
+MAX_BLOCK = 1_048_576
+MAX_U32 = 4_294_967_295
+MAX_EDITS = 64
+MAX_LINE = 4_096
+
+
+def no(number):
+    """A refusal."""
+    return ("no", number)
+
+
+def refused(answer):
+    return isinstance(answer, tuple) and len(answer) == 2 and answer[0] == "no"
+
+
+# ---------------------------------------------------------------- the block
+
+SIZE_OF_TYPE = dict(enumerate((1, 1, 2, 4, 8, 1, 1, 2, 4, 8, 4, 8, 4), start=1))
+
+FOCUS_MODE, CROP_HI_SPEED, CROP_AREA, RECORD = 0x0007, 0x001B, 0x0045, 0x00B7
+FOUR_TAGS = (FOCUS_MODE, CROP_HI_SPEED, CROP_AREA, RECORD)
+
+
+def number_at(data, place, length, order):
+    return int.from_bytes(data[place : place + length], order)
+
+
+def readable(block):
+    """The byte order of a block whose header and directory can be read."""
+    if not 8 <= len(block) <= MAX_BLOCK:
+        return None
+    if block[:4] == b"II*\0":
+        order = "little"
+    elif block[:4] == b"MM\0*":
+        order = "big"
+    else:
+        return None
+    start = number_at(block, 4, 4, order)
+    if start + 2 > len(block):
+        return None
+    if start + 2 + 12 * number_at(block, start, 2, order) > len(block):
+        return None
+    return order
+
+
+def kept_entries(block, order):
+    """Each kept entry: tag, type, count, and where its field stands."""
+    start = number_at(block, 4, 4, order)
+    for i in range(number_at(block, start, 2, order)):
+        entry = start + 2 + 12 * i
+        kind = number_at(block, entry + 2, 2, order)
+        if kind in SIZE_OF_TYPE:
+            tag = number_at(block, entry, 2, order)
+            yield tag, kind, number_at(block, entry + 4, 4, order), entry + 8
+
+
+def first_kept_entry(block, order, tag):
+    for entry in kept_entries(block, order):
+        if entry[0] == tag:
+            return entry
+    return None
+
+
+def value_of(block, order, entry):
+    """The entry's bytes, or None for a damaged value."""
+    _, kind, count, field = entry
+    length = count * SIZE_OF_TYPE[kind]
+    start = field if length <= 4 else number_at(block, field, 4, order)
+    if start + length > len(block):
+        return None
+    return block[start : start + length]
+
+
+def numbers_in(value, order, size):
+    return [number_at(value, i, size, order) for i in range(0, len(value), size)]
+
+
+# ---------------------------------------------------------- the four values
+
+
+def is_manual(block, order):
+    entry = first_kept_entry(block, order, FOCUS_MODE)
+    if entry is None or entry[1] != 2:
+        return False
+    value = value_of(block, order, entry)
+    if value is None:
+        return False
+    text = value.split(b"\0", 1)[0]
+    return len(text) <= 255 and text.strip(b" ") == b"MANUAL"
+
+
+def crop_of(block, order):
+    """The seven numbers of CropHiSpeed, or None for no crop."""
+    entry = first_kept_entry(block, order, CROP_HI_SPEED)
+    if entry is None or entry[1] != 3 or entry[2] != 7:
+        return None
+    value = value_of(block, order, entry)
+    if value is None:
+        return None
+    mode, ow, oh, cw, ch, left, top = numbers_in(value, order, 2)
+    return Crop(mode, (ow, oh), (cw, ch), left, top)
+
+
+def window_of(block, order, raw):
+    """CropArea: 'absent', 'unusable', or the window's size."""
+    entry = first_kept_entry(block, order, CROP_AREA)
+    if entry is None:
+        return "absent"
+    if entry[1] not in (3, 4) or entry[2] != 4 or raw is None:
+        return "unusable"
+    value = value_of(block, order, entry)
+    if value is None:
+        return "unusable"
+    left, top, width, height = numbers_in(value, order, SIZE_OF_TYPE[entry[1]])
+    if width == 0 or height == 0:
+        return "unusable"
+    if left + width > raw[0] or top + height > raw[1]:
+        return "unusable"
+    return (width, height)
+
+
+# --------------------------------------------------------------- the record
+
+# Version: minimum length, places of frame, centre, area and in-focus byte.
+LAYOUTS = {
+    b"0100": (30, 16, 20, 24, 28),
+    b"0101": (84, 70, 74, 78, 82),
+    b"0300": (60, 42, 46, 50, None),
+    b"0301": (60, 42, 46, 50, None),
+    b"0400": (80, 62, 66, 70, 74),
+    b"0401": (80, 62, 66, 70, 74),
+    b"0402": (80, 62, 66, 70, 74),
+}
+
+
+def area_mode(a, b):
+    if (a, b) == (0, 0) or b == 193:
+        return 1  # single
+    if (a, b) == (0, 5):
+        return 2  # dynamic
+    if (a, b) == (0, 8) or b == 197:
+        return 3  # auto
+    if (a, b) in ((0, 9), (1, 207), (2, 207)):
+        return 4  # tracking
+    return 0
+
+
+def record_of(value, order):
+    """The record's parts, or None for an unknown version or a short value."""
+    layout = LAYOUTS.get(bytes(value[:4]))
+    if layout is None or len(value) < layout[0]:
+        return None
+    _, frame, centre, area, in_focus = layout
+
+    def pair(place):
+        part = value[place:]
+        return (number_at(part, 0, 2, order), number_at(part, 2, 2, order))
+
+    byte = None if in_focus is None else value[in_focus]
+    names = None
+    if value[:4] == b"0100":
+        marked = {8 * i + bit + 1 for i in range(7) for bit in range(8)
+                  if value[8 + i] >> bit & 1}
+        names = Names(value[6], value[7], marked)
+    return Record(pair(frame), pair(centre), pair(area), {0: 1, 1: 2}.get(byte, 0),
+                  area_mode(value[4], value[5]), names)
+
+
+# ------------------------------------------------------------ fit and scale
+
+
+def lies_on(x, y, frame):
+    return 0 not in frame and 0 <= x <= frame[0] and 0 <= y <= frame[1]
+
+
+def axis_fits(side, centre, frame_side):
+    half = (side + 1) // 2
+    return half <= centre and centre + half <= frame_side
+
+
+def area_fits(width, height, x, y, frame):
+    return (width > 0 and height > 0
+            and axis_fits(width, x, frame[0]) and axis_fits(height, y, frame[1]))
+
+
+def has_area(point):
+    return (point.width, point.height) != (0, 0)
+
+
+def fits(point, frame):
+    return lies_on(point.x, point.y, frame) and (
+        not has_area(point) or area_fits(point.width, point.height, point.x, point.y, frame))
+
+
+def scale(v, old, new):
+    return min((v * new + old // 2) // old, MAX_U32)
+
+
+def scale_axis(centre, side, old, new):
+    """A scaled centre and side; the side is 0 where nothing is left of it."""
+    centre = scale(centre, old, new)
+    side = max(scale(side, old, new), 1)
+    return centre, min(side, 2 * min(centre, new - centre))
+
+
+def scale_point(point, old, new):
+    x, width = scale_axis(point.x, point.width, old[0], new[0])
+    y, height = scale_axis(point.y, point.height, old[1], new[1])
+    if not has_area(point) or width == 0 or height == 0:
+        width = height = 0
+    return point._replace(x=x, y=y, width=width, height=height)
+
+
+# -------------------------------------------------------- recorded position
+
+
+def place_recorded(record, crop, window, picture):
+    """Frame and point, or None where the position cannot be placed."""
+    frame = record.frame
+    point = Point(0, *record.centre, *record.area, record.in_focus)
+    if not fits(point, frame):
+        return None
+    if crop is None or crop.cropped == crop.original:
+        return frame, point
+    if window == "unusable":
+        return None
+    if window == "absent" and picture is None:
+        return frame, point
+    target = picture if window == "absent" else window
+    less = [c < o for c, o in zip(crop.cropped, crop.original)]
+    same = [c == o for c, o in zip(crop.cropped, crop.original)]
+
+    if all(less):
+        if 0 in target:
+            return None
+        return target, scale_point(point, frame, target)
+
+    for cut, uncut in ((0, 1), (1, 0)):
+        if less[cut] and same[uncut]:
+            shape = list(target)
+            if window == "absent":
+                if 0 in picture:
+                    return None
+                shape[uncut] = frame[uncut]
+                shape[cut] = scale(frame[uncut], picture[uncut], picture[cut])
+            if shape[uncut] != frame[uncut] or shape[cut] > frame[cut]:
+                return None
+            moved = point._replace(x=point.x - (frame[0] - shape[0]) // 2,
+                                   y=point.y - (frame[1] - shape[1]) // 2)
+            return (tuple(shape), moved) if fits(moved, shape) else None
+    return None
+
+
+# ------------------------------------------------------------- named points
+
+MODEL, WHOLE_FRAME, LAYOUT_CODE, BOX = b"NIKON D600", (6016, 4016), 3, 164
+DX_MODE, DX_ORIGIN, DX_FRAME = 2, (1040, 696), (3936, 2624)
+MEDIUM_PICTURE, MEDIUM_ORIGIN, MEDIUM_FRAME = (4512, 3008), (3, 5), (6010, 4006)
+
+# The 39 centres; point number n is the nth.
+CENTRES = (
+    (3008, 2007), (3008, 1755), (3008, 1503), (3008, 2258), (3008, 2510),
+    (3247, 2007), (3247, 1755), (3247, 1503), (3247, 2258), (3247, 2510),
+    (2768, 2007), (2768, 1755), (2768, 1503), (2768, 2258), (2768, 2510),
+    (3486, 2007), (3486, 1705), (3486, 2308), (3724, 2007), (3724, 1705),
+    (3724, 2308), (3963, 2007), (3963, 1705), (3963, 2308), (4203, 2007),
+    (4203, 1705), (4203, 2308), (2529, 2007), (2529, 1705), (2529, 2308),
+    (2289, 2007), (2289, 1705), (2289, 2308), (2050, 2007), (2050, 1705),
+    (2050, 2308), (1812, 2007), (1812, 1705), (1812, 2308),
+)
+
+
+def place_named(names, crop, picture, model):
+    """Frame, points and the primary's index, or None."""
+    if names is None or model != MODEL or names.layout != LAYOUT_CODE:
+        return None
+    if crop is not None and crop.cropped != crop.original:
+        if crop.mode != DX_MODE or (crop.left, crop.top) != DX_ORIGIN:
+            return None
+        if picture not in (None, DX_FRAME):
+            return None
+        frame, origin = DX_FRAME, DX_ORIGIN
+    elif picture == MEDIUM_PICTURE:
+        frame, origin = MEDIUM_FRAME, MEDIUM_ORIGIN
+    else:
+        frame, origin = WHOLE_FRAME, (0, 0)
+    points = []
+    for number, (x, y) in enumerate(CENTRES, start=1):
+        point = Point(number, x - origin[0], y - origin[1], BOX, BOX, 0)
+        if (number in names.mask or number == names.primary) and fits(point, frame):
+            points.append(point)
+    listed = [point.number for point in points]
+    if names.primary not in listed:
+        return None
+    return frame, tuple(points), listed.index(names.primary)
+
+
+# ----------------------------------------------------------------- one load
+
+
+def load(block, raw, picture, model):
+    """What one load gives: a refusal 1 to 6, or what is placed."""
+    order = readable(block)
+    if order is None:
+        return no(1)
+    entry = first_kept_entry(block, order, RECORD)
+    if entry is None or entry[1] != 7:
+        return no(2)
+    if is_manual(block, order):
+        return no(3)
+    value = value_of(block, order, entry)
+    record = None if value is None else record_of(value, order)
+    if record is None:
+        return no(4)
+    crop = crop_of(block, order)
+    if 0 not in record.frame and 0 not in record.area:
+        placed = place_recorded(record, crop, window_of(block, order, raw), picture)
+        if placed is None:
+            return no(5)
+        return Placed(placed[0], (placed[1],), 0, record.mode, 1)
+    placed = place_named(record.names, crop, picture, model)
+    if placed is None:
+        return no(6)
+    return Placed(*placed, record.mode, 2)
+
+
+def contents(block):
+    """The four tags that have a kept entry, or refusal 1. Their order is
+    open; here it is the order of the tags' numbers."""
+    order = readable(block)
+    if order is None:
+        return no(1)
+    return [tag for tag in FOUR_TAGS if first_kept_entry(block, order, tag)]
+
+
+# ----------------------------------------------------------------- the book
+
+
+def frame_after(frame, edit):
+    if edit[0] == "cut":
+        return (edit[3], edit[4])
+    return (frame[1], frame[0]) if edit[0] == "turn" else frame
+
+
+def frame_through(frame, row):
+    for edit in row:
+        frame = frame_after(frame, edit)
+    return frame
+
+
+def carry(point, frame, row):
+    """One point, alone, through a row of edits; None once it is unlisted."""
+    for edit in row:
+        point = move(point, frame, edit)
+        if point is None:
+            return None
+        frame = frame_after(frame, edit)
+    return point
+
+
+def move(point, frame, edit):
+    if edit[0] == "turn":
+        return point._replace(x=frame[1] - point.y, y=point.x,
+                              width=point.height, height=point.width)
+    if edit[0] == "mirror":
+        return point._replace(x=frame[0] - point.x)
+    _, left, top, width, height = edit
+    moved = point._replace(x=point.x - left, y=point.y - top)
+    return moved if fits(moved, (width, height)) else None
+
+
+class Book:
+    """What a list of calls amounts to: empty, or a load and standing edits.
+
+    Calls answer ('no', n), 'ok', a Listing, or the tags of `contents`. A
+    refused call leaves the book, and the buffer, as they are."""
+
+    def __init__(self):
+        self.held = None
+        self.row = []
+
+    def frame(self):
+        return frame_through(self.held.frame, self.row)
+
+    def listed(self, row=None):
+        """Pairs of an index in the load and the point as it now lies."""
+        row = self.row if row is None else row
+        carried = [carry(point, self.held.frame, row) for point in self.held.points]
+        return [(i, point) for i, point in enumerate(carried) if point is not None]
+
+    def load(self, block, raw, picture, model):
+        answer = load(block, raw, picture, model)
+        if refused(answer):
+            return answer
+        self.held, self.row = answer, []
+        return "ok"
+
+    def cut(self, left, top, width, height):
+        if self.held is None:
+            return no(7)
+        if len(self.row) >= MAX_EDITS:
+            return no(8)
+        frame = self.frame()
+        if width == 0 or height == 0 or left + width > frame[0] or top + height > frame[1]:
+            return no(9)
+        row = self.row + [("cut", left, top, width, height)]
+        if self.held.primary not in [i for i, _ in self.listed(row)]:
+            return no(10)
+        self.row = row
+        return "ok"
+
+    def turn(self):
+        return self._join(("turn",))
+
+    def mirror(self):
+        return self._join(("mirror",))
+
+    def _join(self, edit):
+        if self.held is None:
+            return no(7)
+        if len(self.row) >= MAX_EDITS:
+            return no(8)
+        self.row = self.row + [edit]
+        return "ok"
+
+    def back(self):
+        if self.held is None:
+            return no(7)
+        if not self.row:
+            return no(11)
+        self.row = self.row[:-1]
+        return "ok"
+
+    def list(self, buffer):
+        """Writes six numbers a listed point to the front of the buffer."""
+        if self.held is None:
+            return no(7)
+        return self._write(buffer, self.frame(), self.listed())
+
+    def fit(self, width, height, buffer):
+        if self.held is None:
+            return no(7)
+        if width == 0 or height == 0:
+            return no(12)
+        frame = self.frame()
+        scaled = [(i, scale_point(point, frame, (width, height))) for i, point in self.listed()]
+        return self._write(buffer, (width, height), scaled)
+
+    def _write(self, buffer, frame, listed):
+        if len(buffer) < 6 * len(listed):
+            return no(13)
+        for place, (_, point) in enumerate(listed):
+            buffer[6 * place : 6 * place + 6] = point
+        primary = [i for i, _ in listed].index(self.held.primary)
+        return Listing(frame, len(listed), primary, self.held.mode, self.held.origin)
+
+    def contents(self, block):
+        return contents(block)
+
+
+# --------------------------------------------------------- call lines, text
+
+BUFFER_WORDS = 39 * 6
+
+
+def decode(line):
+    """A call as (name, arguments...), or None for a malformed line."""
+    if not line or len(line) > MAX_LINE or len(line) % 2:
+        return None
+    if any(character not in b"0123456789abcdefABCDEF" for character in line):
+        return None
+    data = bytes.fromhex(line.decode("ascii"))
+    if sum(data) % 256:
+        return None
+    body = data[:-1]
+    if not body:
+        return None
+    code, rest = body[0], body[1:]
+    words = [number_at(rest, 4 * i, 4, "big") for i in range(len(rest) // 4)]
+    if code == 1:
+        return decode_load(rest)
+    if code == 2:
+        return ("cut", *words) if len(rest) == 16 else None
+    if code in (3, 4, 5, 6):
+        return (("turn", "mirror", "back", "list")[code - 3],) if not rest else None
+    if code == 7:
+        return ("fit", *words) if len(rest) == 8 else None
+    if code == 8:
+        return ("contents", rest)
+    return None
+
+
+def decode_load(rest):
+    if len(rest) < 18:
+        return None
+    flags = rest[0]
+    sides = [number_at(rest, 1 + 4 * i, 4, "big") for i in range(4)]
+    model_length = rest[17]
+    if flags > 3 or len(rest) < 18 + model_length:
+        return None
+    sizes = []
+    for flag, size in ((1, tuple(sides[:2])), (2, tuple(sides[2:]))):
+        if flags & flag:
+            sizes.append(size)
+        elif size != (0, 0):
+            return None
+        else:
+            sizes.append(None)
+    return ("load", rest[18 + model_length :], *sizes, rest[18 : 18 + model_length])
+
+
+def answer_text(book, line):
+    """The text for one call line, feeds included."""
+    call = decode(line)
+    if call is None:
+        return "no 14\n"
+    name, arguments = call[0], call[1:]
+    buffer = [0] * BUFFER_WORDS
+    if name in ("list", "fit"):
+        arguments = (*arguments, buffer)
+    answer = getattr(book, name)(*arguments)
+    if refused(answer):
+        return "no %d\n" % answer[1]
+    if answer == "ok":
+        return "ok\n"
+    if name == "contents":
+        return " ".join(["tags", str(len(answer))] + [str(tag) for tag in answer]) + "\n"
+    text = head_line(answer) + "\n"
+    for i in range(answer.count):
+        text += " ".join(str(number) for number in buffer[6 * i : 6 * i + 6]) + "\n"
+    return text
+
+
+def head_line(listing):
+    return "frame %d %d points %d primary %d mode %d origin %d" % (
+        *listing.frame, listing.count, listing.primary, listing.mode, listing.origin)
+
+
+def run_script(script):
+    """What focusdesk prints for the bytes of a script."""
+    lines = script.split(b"\n")
+    if lines[-1] == b"":
+        lines.pop()
+    book = Book()
+    return "".join(answer_text(book, line) for line in lines)
+
+
+# ------------------------------------------------ load lines, as the oracle
+
+
+def parse_size(text):
+    if text == "-":
+        return None
+    width, height = text.split("x")
+    return (int(width), int(height))
+
+
+def parse_hex(text):
+    return b"" if text == "-" else bytes.fromhex(text)
+
+
+def load_line_answer(line):
+    raw, picture, model, block = line.split(" ")
+    answer = load(parse_hex(block), parse_size(raw), parse_size(picture), parse_hex(model))
+    if refused(answer):
+        return "no %d" % answer[1]
+    head = head_line(Listing(answer.frame, len(answer.points), answer.primary,
+                             answer.mode, answer.origin))
+    return " | ".join([head] + [" ".join(map(str, point)) for point in answer.points])
+
+
+# ---------------------------------------------------------------- self-test
+
+WHOLE_CASE = (
+    b"0100000000000000000000000000000000000A4E494B4F4E20443630304D4D002A000000080001"
+    b"00B700070000001E00000016303130300000030101800000000000000000000000000000000000"
+    b"00000077\n03FD\n020000076C00000B5400000190000001900A\n06FA\n"
+)
+WHOLE_CASE_PRINTS = (
+    "ok\nok\nok\nframe 400 400 points 1 primary 0 mode 1 origin 2\n1 109 108 164 164 0\n"
+)
+
+
+def build_block(*entries):
+    """A big-endian block from (tag, type, count, bytes)."""
+    data = b"MM\0*\0\0\0\x08" + len(entries).to_bytes(2, "big")
+    end = len(data) + 12 * len(entries)
+    far = b""
+    for tag, kind, count, value in entries:
+        data += tag.to_bytes(2, "big") + kind.to_bytes(2, "big") + count.to_bytes(4, "big")
+        if len(value) <= 4:
+            data += value.ljust(4, b"\0")
+        else:
+            data += (end + len(far)).to_bytes(4, "big")
+            far += value
+    return data + far
+
+
+def shorts(*numbers):
+    return b"".join(number.to_bytes(2, "big") for number in numbers)
+
+
+def named_block(primary, length=30, crop=None):
+    value = (b"0100\0\0\x03" + bytes([primary])).ljust(length, b"\0")[:length]
+    entries = [(RECORD, 7, length, value)]
+    if crop:
+        entries.insert(0, (CROP_HI_SPEED, 3, 7, shorts(*crop)))
+    return build_block(*entries)
+
+
+def call_line(*data):
+    body = b"".join(data)
+    return (body + bytes([-sum(body) % 256])).hex().encode()
+
+
+def self_test():
+    dx = (2, 6016, 4016, 3936, 2624, 1040, 696)
+
+    def only_point(primary, picture=None, crop=None):
+        placed = load(named_block(primary, crop=crop), None, picture, MODEL)
+        return (placed.points[0].x, placed.points[0].y)
+
+    def full_book():
+        book = Book()
+        book.load(named_block(1), None, None, MODEL)
+        return book, [book.turn() for _ in range(65)]
+
+    book, turns = full_book()
+    checks = [
+        ("the whole case", run_script(WHOLE_CASE), WHOLE_CASE_PRINTS),
+        ("the whole case, last feed missing", run_script(WHOLE_CASE[:-1]), WHOLE_CASE_PRINTS),
+        ("scale(1,2,1)", scale(1, 2, 1), 1),
+        ("scale(1,3,1)", scale(1, 3, 1), 0),
+        ("scale(2,3,1)", scale(2, 3, 1), 1),
+        ("side 3 at centre 2, frame 4", axis_fits(3, 2, 4), True),
+        ("side 3 at centre 2, frame 3", axis_fits(3, 2, 3), False),
+        ("centre 20, frame 100 to 1",
+         scale_point(Point(0, 20, 20, 10, 10, 0), (100, 100), (1, 1)), Point(0, 0, 0, 0, 0, 0)),
+        ("point 27 in the DX window", only_point(27, crop=dx), (3163, 1612)),
+        ("point 38 in the DX window", only_point(38, crop=dx), (772, 1009)),
+        ("point 1 in 4512 by 3008", only_point(1, picture=(4512, 3008)), (3005, 2002)),
+        ("version 0100 of 29 bytes", load(named_block(1, 29), None, None, MODEL), no(4)),
+        ("version 0100 of 30 bytes", only_point(1), (3008, 2007)),
+        ("primary 0", load(named_block(0), None, None, MODEL), no(6)),
+        ("no input, no line", run_script(b""), ""),
+        ("an empty line", run_script(b"\n"), "no 14\n"),
+        ("an empty book", run_script(b"03FD\n05FB\n06fa\n"), "no 7\nno 7\nno 7\n"),
+        ("either case", run_script(b"06fA\n06Fa\n"), "no 7\nno 7\n"),
+        ("nothing but a check", run_script(b"00\n"), "no 14\n"),
+        ("a wrong check", run_script(b"03FE\n"), "no 14\n"),
+        ("an odd count of digits", run_script(b"03FD0\n"), "no 14\n"),
+        ("another character", run_script(b"03FD\r\n"), "no 14\n"),
+        ("an unknown code", run_script(call_line(b"\x09")), "no 14\n"),
+        ("a wrong length", run_script(call_line(b"\x03\x00")), "no 14\n"),
+        ("a flag byte of 4", run_script(call_line(b"\x01\x04", bytes(17))), "no 14\n"),
+        ("a missing size of 1", run_script(call_line(b"\x01\x02\x01", bytes(16))), "no 14\n"),
+        ("a model cut short", run_script(call_line(b"\x01", bytes(17), b"\x01")), "no 14\n"),
+        ("4,096 characters", run_script(call_line(b"\x08", bytes(2046))), "no 1\n"),
+        ("4,098 characters", run_script(call_line(b"\x08", bytes(2047))), "no 14\n"),
+        ("an empty block", run_script(call_line(b"\x01", bytes(18))), "no 1\n"),
+        ("contents", run_script(call_line(b"\x08", named_block(1, crop=dx))), "tags 2 27 183\n"),
+        ("contents of no entries", run_script(call_line(b"\x08", build_block())), "tags 0\n"),
+        ("64 edits stand", turns, ["ok"] * 64 + [no(8)]),
+        ("back after them", [book.back() for _ in range(65)], ["ok"] * 64 + [no(11)]),
+        ("a short buffer", book.list([9] * 5), no(13)),
+        ("cut past the frame", book.cut(1, 0, 6016, 1), no(9)),
+        ("cut that drops the primary", book.cut(0, 0, 100, 100), no(10)),
+        ("fit to a zero side", book.fit(0, 5, []), no(12)),
+    ]
+    failed = [(name, got, wanted) for name, got, wanted in checks if got != wanted]
+    for name, got, wanted in failed:
+        print("%s: got %r, wanted %r" % (name, got, wanted))
+    print("self-test: %d of %d right" % (len(checks) - len(failed), len(checks)))
+    return 1 if failed else 0
+
+
+def main(arguments):
+    if arguments == ["--self-test"]:
+        return self_test()
+    if arguments == ["--loads"]:
+        for line in sys.stdin:
+            print(load_line_answer(line.rstrip("\n")))
+        return 0
+    if arguments:
+        print(__doc__.strip(), file=sys.stderr)
+        return 2
+    sys.stdout.write(run_script(sys.stdin.buffer.read()))
+    return 0
+
+
+if __name__ == "__main__":
+    sys.exit(main(sys.argv[1:]))
