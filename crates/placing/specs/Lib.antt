@@ -1,4 +1,1 @@
-pub mod Fit
-pub mod Scale
-pub mod Laws
-pub mod Examples
+pub mod Load
