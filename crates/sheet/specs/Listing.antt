@@ -16,6 +16,7 @@ use Rattle.sheet.specs.declared.list.Listing.{Listing}
 use Rattle.sheet.specs.declared.list.ListAnswer.{ListAnswer}
 use Rattle.sheet.specs.declared.list.ListAnswer.the-variants.{Empty, ZeroBox, Short, Listed}
 use Rattle.sheet.specs.declared.list.Present.{Present}
+use Rattle.sheet.specs.declared.list.Row.{Row}
 use Rattle.sheet.specs.Sheet.{usable, placedAt, presentFrame}
 
 -- 01's number for each way in which list and fit end, 0 for listed
@@ -50,6 +51,10 @@ listCount s = length (listed s)
 -- "the primary's index its place among them"
 unfoldable pub listIndex : Sheet → ℕ
 listIndex s = length (listing s (s .primary))
+
+-- points in 39 places, and how many there are
+abbrev pub rowOf : List FocusPoint → Row
+rowOf ps = record { points = places ps; count = length ps }
 
 -- the code's value for what is listed
 unfoldable pub presentOf : Sheet → Present
