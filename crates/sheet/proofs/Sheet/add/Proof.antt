@@ -6,28 +6,19 @@ use Rattle.sheet.proofs.Usable.{when-empty, when-full, when-open}
 use borrow.Author.Needs.{needs}
 use Rattle.sheet.proofs.Sheet.add.Statement.{statement}
 use Rattle.sheet.proofs.Sheet.add.Tie as tie
-use Rattle.sheet.proofs.Sheet.add.Reads as reads
-use Rattle.sheet.proofs.Sheet.add.Lts as lts
-use Rattle.sheet.proofs.Sheet.is_usable.Reads as is-usable-reads
-use Rattle.sheet.proofs.Sheet.with_edit.Reads as with-edit-reads
 
--- src/lib.rt:126:13
 is-usable-requires : tie.Need-is-usable-requires
 is-usable-requires c κs = search needs
 
--- src/lib.rt:127:13
 returns : tie.Need-returns
 returns c = when-empty _ _ (c .before .is-usable .ensures) _ (c .if1 .taken)
 
--- src/lib.rt:133:13
 returns-2 : tie.Need-returns-2
 returns-2 c = when-full _ _ (c .before .before .before .is-usable .ensures) _ (c .before .before .if1 .left) (c .if2 .taken)
 
--- src/lib.rt:138:13
 with-edit-requires : tie.Need-with-edit-requires
 with-edit-requires c κs = search needs
 
--- src/lib.rt:123:5
 returns-3 : tie.Need-returns-3
 returns-3 c = ap (edited Accepted) (c .with-edit .ensures) ∙ when-open _ _ (c .before .before .before .before .is-usable .ensures) _ (c .before .before .before .if1 .left) (c .before .if2 .left)
 

@@ -9,9 +9,6 @@ use Rattle.sheet.specs.Sheet.{edited, withEdits, usable, backSheet}
 use borrow.Author.Needs.{needs}
 use Rattle.sheet.proofs.Sheet.back.Statement.{statement}
 use Rattle.sheet.proofs.Sheet.back.Tie as tie
-use Rattle.sheet.proofs.Sheet.back.Reads as reads
-use Rattle.sheet.proofs.Sheet.back.Lts as lts
-use Rattle.sheet.proofs.Sheet.is_usable.Reads as is-usable-reads
 
 module _ (s : Sheet) (r : Bool) (e : r ≡ usable s) where
   empty : not r ≡ true → edited Empty s ≡ backSheet s
@@ -27,23 +24,18 @@ module _ (s : Sheet) (r : Bool) (e : r ≡ usable s) where
     unfolding backSheet
     one-less a = rw (← e, not-false r n, ne-eqb (s .standing) 0 a)
 
--- src/lib.rt:208:13
 is-usable-requires : tie.Need-is-usable-requires
 is-usable-requires c κs = search needs
 
--- src/lib.rt:209:13
 returns : tie.Need-returns
 returns c = empty _ _ (c .before .is-usable .ensures) (c .if1 .taken)
 
--- src/lib.rt:216:13
 returns-2 : tie.Need-returns-2
 returns-2 c = none-stands _ _ (c .before .before .is-usable .ensures) (c .before .if1 .left) (c .if2 .taken)
 
--- src/lib.rt:222:26
 sub-sheet : tie.Need-sub-sheet
 sub-sheet c = search needs
 
--- src/lib.rt:205:5
 returns-3 : tie.Need-returns-3
 returns-3 c = one-less _ _ (c .before .before .is-usable .ensures) (c .before .if1 .left) (c .if2 .left)
 

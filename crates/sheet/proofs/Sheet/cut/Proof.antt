@@ -16,13 +16,6 @@ use Rattle.sheet.proofs.Usable.{Counts, counts, when-empty, when-full, 
 use borrow.Author.Needs.{needs}
 use Rattle.sheet.proofs.Sheet.cut.Statement.{statement}
 use Rattle.sheet.proofs.Sheet.cut.Tie as tie
-use Rattle.sheet.proofs.Sheet.cut.Reads as reads
-use Rattle.sheet.proofs.Sheet.cut.Lts as lts
-use Rattle.sheet.proofs.Sheet.is_usable.Reads as is-usable-reads
-use Rattle.sheet.proofs.Sheet.place_at.Reads as place-at-reads
-use Rattle.sheet.proofs.Sheet.with_edit.Reads as with-edit-reads
-use Rattle.sheet.proofs.edit.cut_passes.Reads as cut-passes-reads
-use Rattle.sheet.proofs.edit.move_by.Reads as move-by-reads
 
 module _ (s : Sheet) (q : Placed) (e : q ≡ placedAt s (s .primary)) where
   frame-of : q .frame ≡ presentFrame s
@@ -49,45 +42,35 @@ module _ (s : Sheet) (l t w h : ℕ) (r : Bool) (e : r ≡ usable s) (n : not r 
     done d z ez =
         rw (← ef, ← ep, not-false p m, ← ek, not-false k d, ← ez) (when-open s r e (edited Accepted z) n a)
 
--- src/lib.rt:163:13
 is-usable-requires : tie.Need-is-usable-requires
 is-usable-requires c κs = search needs
 
--- src/lib.rt:164:13
 returns : tie.Need-returns
 unfolding cutSheet
 returns c = when-empty _ _ (c .before .is-usable .ensures) _ (c .if1 .taken)
 
--- src/lib.rt:170:13
 returns-2 : tie.Need-returns-2
 unfolding cutSheet
 returns-2 c = when-full _ _ (c .before .before .before .is-usable .ensures) _ (c .before .before .if1 .left) (c .if2 .taken)
 
--- src/lib.rt:176:13
 place-at-requires : tie.Need-place-at-requires
 place-at-requires c κs = let u = counts _ _ (c .before .before .before .is-usable .ensures) (c .before .before .if1 .left) in omega arith
 
--- src/lib.rt:178:13
 cut-passes-requires : tie.Need-cut-passes-requires
 cut-passes-requires c κs = search needs
 
--- src/lib.rt:179:13
 returns-3 : tie.Need-returns-3
 returns-3 c = passes-frame _ _ _ _ _ _ (c .before .before .before .before .before .before .before .is-usable .ensures) (c .before .before .before .before .before .before .if1 .left) (c .before .before .before .before .if2 .left) _ (frame-of _ _ (c .before .before .before .place-at .ensures)) _ (c .before .cut-passes .ensures) (c .if3 .taken)
 
--- src/lib.rt:190:13
 move-by-requires : tie.Need-move-by-requires
 move-by-requires c κs = search needs
 
--- src/lib.rt:192:13
 returns-4 : tie.Need-returns-4
 returns-4 c = drops _ _ _ _ _ _ (c .before .before .before .before .before .before .before .before .before .before .is-usable .ensures) (c .before .before .before .before .before .before .before .before .before .if1 .left) (c .before .before .before .before .before .before .before .if2 .left) _ (frame-of _ _ (c .before .before .before .before .before .before .place-at .ensures)) _ (c .before .before .before .before .cut-passes .ensures) (c .before .before .before .if3 .left) _ (listed-by _ _ (c .before .before .before .before .before .before .place-at .ensures) _ _ (c .before .before .move-by .ensures)) (c .if4 .taken)
 
--- src/lib.rt:197:13
 with-edit-requires : tie.Need-with-edit-requires
 with-edit-requires c κs = search needs
 
--- src/lib.rt:160:5
 returns-5 : tie.Need-returns-5
 returns-5 c = done _ _ _ _ _ _ (c .before .before .before .before .before .before .before .before .before .before .before .is-usable .ensures) (c .before .before .before .before .before .before .before .before .before .before .if1 .left) (c .before .before .before .before .before .before .before .before .if2 .left) _ (frame-of _ _ (c .before .before .before .before .before .before .before .place-at .ensures)) _ (c .before .before .before .before .before .cut-passes .ensures) (c .before .before .before .before .if3 .left) _ (listed-by _ _ (c .before .before .before .before .before .before .before .place-at .ensures) _ _ (c .before .before .before .move-by .ensures)) (c .before .if4 .left) _ (c .with-edit .ensures)
 

@@ -8,8 +8,6 @@ use Rattle.sheet.specs.declared.Sheet.{Sheet}
 use Rattle.sheet.specs.Sheet.{usable}
 use Rattle.sheet.proofs.Sheet.is_usable.Statement.{statement}
 use Rattle.sheet.proofs.Sheet.is_usable.Tie as tie
-use Rattle.sheet.proofs.Sheet.is_usable.Reads as reads
-use Rattle.sheet.proofs.Sheet.is_usable.Lts as lts
 
 module _ (s : Sheet) where
   unloaded : not (s .loaded) ≡ true → false ≡ usable s
@@ -30,19 +28,15 @@ module _ (s : Sheet) where
       unfolding usable
       by-edits b = rw (not-false (s .loaded) n, le-leb (s .count) 39 a, lt-ltb (s .primary) (s .count) b)
 
--- src/lib.rt:81:13
 returns : tie.Need-returns
 returns c = unloaded _ (c .if1 .taken)
 
--- src/lib.rt:84:13
 returns-2 : tie.Need-returns-2
 returns-2 c = crowded _ (c .before .before .if1 .left) (c .if2 .taken)
 
--- src/lib.rt:87:13
 returns-3 : tie.Need-returns-3
 returns-3 c = no-primary _ (c .before .before .before .before .if1 .left) (c .before .before .if2 .left) (c .if3 .taken)
 
--- src/lib.rt:77:5
 returns-4 : tie.Need-returns-4
 returns-4 c = by-edits _ (c .before .before .before .before .before .if1 .left) (c .before .before .before .if2 .left) (c .before .if3 .left)
 

@@ -12,9 +12,6 @@ use Rattle.sheet.specs.Listing.{listing}
 use Rattle.sheet.proofs.Listed.{has-room, one-in, none-in, row-done}
 use Rattle.sheet.proofs.Sheet.listed_to.Statement.{statement}
 use Rattle.sheet.proofs.Sheet.listed_to.Tie as tie
-use Rattle.sheet.proofs.Sheet.listed_to.Reads as reads
-use Rattle.sheet.proofs.Sheet.listed_to.Lts as lts
-use Rattle.sheet.proofs.edit.place.Reads as place-reads
 
 abbrev Inv-loop : tie.InvT-loop
 Inv-loop from to self points₀ count₀ frame words standing i₀ points count i = (i ≤ to) × (count ≡ length (listing self i)) × (points ≡ places (listing self i))
@@ -22,43 +19,33 @@ Inv-loop from to self points₀ count₀ frame words standing i₀ points count 
 abbrev μ-loop : tie.MeasureT-loop
 μ-loop from to self points₀ count₀ frame words standing i₀ points count i = to - i
 
--- src/list.rt:122:9
 loop-holds : tie.Need-loop-holds Inv-loop μ-loop
 loop-holds c = ((c .before .before .before .pre .0), ap (λ (r : Row). r .count) ((c .before .before .before .pre .3)), ap (λ (r : Row). r .points) ((c .before .before .before .pre .3)))
 
--- src/list.rt:123:21
 mul-p : tie.Need-mul-p Inv-loop μ-loop
 mul-p c = omega (arith, (c .before .before .before .before .before .pre))
 
--- src/list.rt:123:21
 element-copy-out-p : tie.Need-element-copy-out-p Inv-loop μ-loop
 element-copy-out-p c = omega (arith, (c .before .before .before .before .before .pre))
 
--- src/list.rt:124:17
 place-requires : tie.Need-place-requires Inv-loop μ-loop
 place-requires c κs = omega (arith, (c .before .before .before .before .before .before .before .pre))
 
--- src/list.rt:127:17
 mul-points : tie.Need-mul-points Inv-loop μ-loop
 mul-points c = let b = has-room _ _ _ _ (omega (arith, (c .before .before .before .before .before .before .before .before .before .before .pre))) ((c .before .before .before .before .before .before .loop .inv .1)) ((c .before .before .before .before .before .before .loop .inv .2)) in omega (arith, (c .before .before .before .before .before .before .before .before .before .before .pre))
 
--- src/list.rt:127:17
 array-set-from-points : tie.Need-array-set-from-points Inv-loop μ-loop
 array-set-from-points c = let b = has-room _ _ _ _ (omega (arith, (c .before .before .before .before .before .before .before .before .before .before .pre))) ((c .before .before .before .before .before .before .loop .inv .1)) ((c .before .before .before .before .before .before .loop .inv .2)) in omega (arith, (c .before .before .before .before .before .before .before .before .before .before .pre))
 
--- src/list.rt:128:17
 add-count : tie.Need-add-count Inv-loop μ-loop
 add-count c = let b = has-room _ _ _ _ (omega (arith, (c .before .before .before .before .before .before .before .before .before .before .pre))) ((c .before .before .before .before .before .before .loop .inv .1)) ((c .before .before .before .before .before .before .loop .inv .2)) in omega (arith, (c .before .before .before .before .before .before .before .before .before .before .pre))
 
--- src/list.rt:130:13
 add-i : tie.Need-add-i Inv-loop μ-loop
 add-i c = omega (arith, (c .before .before .before .before .before .before .before .before .before .pre))
 
--- src/list.rt:122:9
 loop-less : tie.Need-loop-less Inv-loop μ-loop
 loop-less c = omega arith
 
--- src/list.rt:122:9
 loop-again : tie.Need-loop-again Inv-loop μ-loop
 unfolding placedAt
 loop-again c = ⊎-elim
@@ -66,7 +53,6 @@ loop-again c = ⊎-elim
     (λ w. let z = none-in _ _ _ _ (omega (arith, (c .before .before .before .before .before .before .before .before .before .pre))) ((c .before .before .before .before .before .loop .inv .1)) ((c .before .before .before .before .before .loop .inv .2)) _ (c .before .place .ensures) (w .0 .left) in (omega arith, w .2 ∙ z .0, w .1 ∙ z .1))
     (c .if1 .came)
 
--- src/list.rt:112:5
 returns : tie.Need-returns Inv-loop μ-loop
 returns c = row-done _ _ _ _ _ ((c .before .loop .inv .0)) (c .loop-test .left) ((c .before .loop .inv .1)) ((c .before .loop .inv .2))
 

@@ -3,15 +3,10 @@ use Rattle.sheet.specs.Sheet.{mirrorSheet}
 use borrow.Author.Needs.{needs}
 use Rattle.sheet.proofs.Sheet.mirror.Statement.{statement}
 use Rattle.sheet.proofs.Sheet.mirror.Tie as tie
-use Rattle.sheet.proofs.Sheet.mirror.Reads as reads
-use Rattle.sheet.proofs.Sheet.mirror.Lts as lts
-use Rattle.sheet.proofs.Sheet.add.Reads as add-reads
 
--- src/lib.rt:156:9
 add-requires : tie.Need-add-requires
 add-requires c κs = search needs
 
--- src/lib.rt:153:5
 returns : tie.Need-returns
 unfolding mirrorSheet
 returns c = (c .add .ensures)

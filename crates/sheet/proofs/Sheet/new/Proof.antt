@@ -13,9 +13,6 @@ use Rattle.sheet.specs.Sheet.{freshSheet}
 use borrow.Author.Needs.{needs}
 use Rattle.sheet.proofs.Sheet.new.Statement.{statement}
 use Rattle.sheet.proofs.Sheet.new.Tie as tie
-use Rattle.sheet.proofs.Sheet.new.Reads as reads
-use Rattle.sheet.proofs.Sheet.new.Lts as lts
-use Rattle.placing.proofs.focus.no_places.Reads as no-places-reads
 
 fresh : (ps : List FocusPoint) → ps ≡ replicate 39 noPoint
     → _≡_ {A = Sheet} (record {
@@ -32,11 +29,9 @@ fresh : (ps : List FocusPoint) → ps ≡ replicate 39 noPoint
 unfolding freshSheet
 fresh ps e = rw e
 
--- src/lib.rt:58:13
 no-places-requires : tie.Need-no-places-requires
 no-places-requires c κs = search needs
 
--- src/lib.rt:55:5
 returns : tie.Need-returns
 returns c = fresh _ (c .no-places .ensures)
 

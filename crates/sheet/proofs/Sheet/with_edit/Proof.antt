@@ -11,9 +11,6 @@ use Rattle.sheet.proofs.Words.{five-stores}
 use borrow.Author.Needs.{needs}
 use Rattle.sheet.proofs.Sheet.with_edit.Statement.{statement}
 use Rattle.sheet.proofs.Sheet.with_edit.Tie as tie
-use Rattle.sheet.proofs.Sheet.with_edit.Reads as reads
-use Rattle.sheet.proofs.Sheet.with_edit.Lts as lts
-use Rattle.sheet.proofs.edit.words_of.Reads as words-of-reads
 
 with-words : (s : Sheet) (e : Edit) (vs : List ℕ) → vs ≡ wordsOf e
     → withEdits s (set (set (set (set (set (s .edits) (s .standing * 5) (getD vs 0 0)) (s .standing * 5 + 1) (getD vs 1 0)) (s .standing * 5 + 2) (getD vs 2 0)) (s .standing * 5 + 3) (getD vs 3 0)) (s .standing * 5 + 4) (getD vs 4 0)) (s .standing + 1)
@@ -21,95 +18,72 @@ with-words : (s : Sheet) (e : Edit) (vs : List ℕ) → vs ≡ wordsOf e
 unfolding addEdit
 with-words s e vs g = ap (λ (l : List ℕ). withEdits s l (s .standing + 1)) (five-stores e vs (s .edits) (s .standing * 5) g)
 
--- src/lib.rt:109:21
 words-of-requires : tie.Need-words-of-requires
 words-of-requires c κs = search needs
 
--- src/lib.rt:111:18
 mul-at : tie.Need-mul-at
 mul-at c = search needs
 
--- src/lib.rt:113:26
 array-read-next : tie.Need-array-read-next
 array-read-next c = search needs
 
--- src/lib.rt:113:9
 mul-next : tie.Need-mul-next
 mul-next c = search needs
 
--- src/lib.rt:113:9
 element-write-next : tie.Need-element-write-next
 element-write-next c = search needs
 
--- src/lib.rt:114:30
 array-read-next-2 : tie.Need-array-read-next-2
 array-read-next-2 c = search needs
 
--- src/lib.rt:114:20
 add-next : tie.Need-add-next
 add-next c = search needs
 
--- src/lib.rt:114:9
 mul-next-2 : tie.Need-mul-next-2
 mul-next-2 c = search needs
 
--- src/lib.rt:114:9
 element-write-next-2 : tie.Need-element-write-next-2
 element-write-next-2 c = search needs
 
--- src/lib.rt:115:30
 array-read-next-3 : tie.Need-array-read-next-3
 array-read-next-3 c = search needs
 
--- src/lib.rt:115:20
 add-next-2 : tie.Need-add-next-2
 add-next-2 c = search needs
 
--- src/lib.rt:115:9
 mul-next-3 : tie.Need-mul-next-3
 mul-next-3 c = search needs
 
--- src/lib.rt:115:9
 element-write-next-3 : tie.Need-element-write-next-3
 element-write-next-3 c = search needs
 
--- src/lib.rt:116:30
 array-read-next-4 : tie.Need-array-read-next-4
 array-read-next-4 c = search needs
 
--- src/lib.rt:116:20
 add-next-3 : tie.Need-add-next-3
 add-next-3 c = search needs
 
--- src/lib.rt:116:9
 mul-next-4 : tie.Need-mul-next-4
 mul-next-4 c = search needs
 
--- src/lib.rt:116:9
 element-write-next-4 : tie.Need-element-write-next-4
 element-write-next-4 c = search needs
 
--- src/lib.rt:117:30
 array-read-next-5 : tie.Need-array-read-next-5
 array-read-next-5 c = search needs
 
--- src/lib.rt:117:20
 add-next-4 : tie.Need-add-next-4
 add-next-4 c = search needs
 
--- src/lib.rt:117:9
 mul-next-5 : tie.Need-mul-next-5
 mul-next-5 c = search needs
 
--- src/lib.rt:117:9
 element-write-next-5 : tie.Need-element-write-next-5
 element-write-next-5 c = search needs
 
--- src/lib.rt:118:25
 add-next-5 : tie.Need-add-next-5
 add-next-5 c = search needs
 
--- src/lib.rt:105:5
 returns : tie.Need-returns
 returns c = with-words (c .before .args .self) _ _ (c .words-of .ensures)
 

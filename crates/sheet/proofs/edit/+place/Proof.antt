@@ -42,7 +42,6 @@ place-at t = and 1 place-kinds.ps (is 1 place-kinds.ps μ-place t) place.Pre
 abbrev place-below : ℕ → In 1 place-kinds.ps
 place-below t = and 1 place-kinds.ps (falls 1 place-kinds.ps _<_ μ-place t) place.Pre
 
--- src/edit.rt:231:9
 place-returns : (t : ℕ) → place-lts.Need-returns (
   place-below t,
   place.Post,
@@ -53,7 +52,6 @@ place-returns : (t : ℕ) → place-lts.Need-returns (
 ) (place-at t) place.Post
 place-returns t c = no-edits _ _ _ _ (c .if1 .taken)
 
--- src/edit.rt:237:13
 place-sub-m : (t : ℕ) → place-lts.Need-sub-m (
   place-below t,
   place.Post,
@@ -64,7 +62,6 @@ place-sub-m : (t : ℕ) → place-lts.Need-sub-m (
 ) (place-at t) place.Post
 place-sub-m t c = omega arith
 
--- src/edit.rt:238:9
 place-place-requires : (t : ℕ) → place-lts.Need-place-requires (
   place-below t,
   place.Post,
@@ -75,7 +72,6 @@ place-place-requires : (t : ℕ) → place-lts.Need-place-requires (
 ) (place-at t) place.Post
 place-place-requires t c κs = omega arith
 
--- src/edit.rt:239:9
 place-edit-at-requires : (t : ℕ) → place-lts.Need-edit-at-requires (
   place-below t,
   place.Post,
@@ -86,7 +82,6 @@ place-edit-at-requires : (t : ℕ) → place-lts.Need-edit-at-requires (
 ) (place-at t) place.Post
 place-edit-at-requires t c κs = omega arith
 
--- src/edit.rt:240:5
 place-move-by-requires : (t : ℕ) → place-lts.Need-move-by-requires (
   place-below t,
   place.Post,
@@ -97,7 +92,6 @@ place-move-by-requires : (t : ℕ) → place-lts.Need-move-by-requires (
 ) (place-at t) place.Post
 place-move-by-requires t c κs = search needs
 
--- src/edit.rt:226:1
 place-returns-2 : (t : ℕ) → place-lts.Need-returns-2 (
   place-below t,
   place.Post,

@@ -9,9 +9,6 @@ use Rattle.sheet.specs.Sheet.{cutPasses}
 use borrow.Author.Needs.{needs}
 use Rattle.sheet.proofs.edit.cut_passes.Statement.{statement}
 use Rattle.sheet.proofs.edit.cut_passes.Tie as tie
-use Rattle.sheet.proofs.edit.cut_passes.Reads as reads
-use Rattle.sheet.proofs.edit.cut_passes.Lts as lts
-use Rattle.sheet.proofs.edit.span_passes.Reads as span-passes-reads
 
 module _ (l t w h : ℕ) (f : Size) where
   no-width : w ≡ 0 → false ≡ cutPasses l t w h f
@@ -32,27 +29,21 @@ module _ (l t w h : ℕ) (f : Size) where
       unfolding cutPasses
       down n u g = rw (ne-eqb w 0 a, ne-eqb h 0 b, ← e, n, ← g)
 
--- src/edit.rt:176:9
 returns : tie.Need-returns
 returns c = no-width _ _ _ _ _ (c .if1 .taken)
 
--- src/edit.rt:179:9
 returns-2 : tie.Need-returns-2
 returns-2 c = no-height _ _ _ _ _ (c .before .if1 .left) (c .if2 .taken)
 
--- src/edit.rt:181:5
 span-passes-requires : tie.Need-span-passes-requires
 span-passes-requires c κs = search needs
 
--- src/edit.rt:181:46
 span-passes-requires-2 : tie.Need-span-passes-requires-2
 span-passes-requires-2 c κs = search needs
 
--- src/edit.rt:172:1
 returns-3 : tie.Need-returns-3
 returns-3 c = down _ _ _ _ _ (c .before .before .before .before .if1 .left) (c .before .before .before .if2 .left) _ (c .before .before .span-passes .ensures) (c .before .if3 .taken) _ (c .span-passes2 .ensures)
 
--- src/edit.rt:172:1
 returns-4 : tie.Need-returns-4
 returns-4 c = across _ _ _ _ _ (c .before .before .before .if1 .left) (c .before .before .if2 .left) _ (c .before .span-passes .ensures) (c .if3 .left)
 

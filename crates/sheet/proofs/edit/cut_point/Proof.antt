@@ -8,25 +8,18 @@ use Rattle.sheet.specs.Place.{size, shiftedPoint, staysOn, cutPoint}
 use borrow.Author.Needs.{needs}
 use Rattle.sheet.proofs.edit.cut_point.Statement.{statement}
 use Rattle.sheet.proofs.edit.cut_point.Tie as tie
-use Rattle.sheet.proofs.edit.cut_point.Reads as reads
-use Rattle.sheet.proofs.edit.cut_point.Lts as lts
-use Rattle.sheet.proofs.edit.shifted_point.Reads as shifted-point-reads
-use Rattle.sheet.proofs.edit.stays_on.Reads as stays-on-reads
 
 cut-to : (l t w h : ℕ) (q : Placed) (b : Bool) → b ≡ staysOn l t w h (q .point) → (p : FocusPoint) → p ≡ shiftedPoint l t (q .point)
     → _≡_ {A = Placed} (record { listed = q .listed && b; point = p; frame = size w h }) (cutPoint l t w h q)
 unfolding cutPoint
 cut-to l t w h q b e p g = rw (e, g)
 
--- src/edit.rt:119:9
 stays-on-requires : tie.Need-stays-on-requires
 stays-on-requires c κs = search needs
 
--- src/edit.rt:120:9
 shifted-point-requires : tie.Need-shifted-point-requires
 shifted-point-requires c κs = search needs
 
--- src/edit.rt:115:1
 returns : tie.Need-returns
 returns c = cut-to _ _ _ _ _ _ (c .before .before .stays-on .ensures) _ (c .before .shifted-point .ensures)
 

@@ -9,8 +9,6 @@ use Rattle.sheet.specs.Place.{editAt}
 use borrow.Author.Needs.{needs}
 use Rattle.sheet.proofs.edit.edit_at.Statement.{statement}
 use Rattle.sheet.proofs.edit.edit_at.Tie as tie
-use Rattle.sheet.proofs.edit.edit_at.Reads as reads
-use Rattle.sheet.proofs.edit.edit_at.Lts as lts
 
 module _ (ws : List ℕ) (i : ℕ) (k : ℕ) (e : k ≡ getD ws (i * 5) 0) where
   a-turn : k ≡ 0 → Turn ≡ editAt ws i
@@ -26,75 +24,57 @@ module _ (ws : List ℕ) (i : ℕ) (k : ℕ) (e : k ≡ getD ws (i * 5) 0) where
     unfolding editAt
     a-cut b = rw (← e, ne-eqb k 0 a, ne-eqb k 1 b)
 
--- src/edit.rt:205:14
 mul-at : tie.Need-mul-at
 mul-at c = search needs
 
--- src/edit.rt:206:16
 mul-kind : tie.Need-mul-kind
 mul-kind c = search needs
 
--- src/edit.rt:206:16
 element-copy-out-kind : tie.Need-element-copy-out-kind
 element-copy-out-kind c = search needs
 
--- src/edit.rt:208:9
 returns : tie.Need-returns
 returns c = a-turn _ _ _ refl (c .if1 .taken)
 
--- src/edit.rt:211:9
 returns-2 : tie.Need-returns-2
 returns-2 c = a-mirror _ _ _ refl (c .before .if1 .left) (c .if2 .taken)
 
--- src/edit.rt:213:22
 add-left : tie.Need-add-left
 add-left c = search needs
 
--- src/edit.rt:213:16
 mul-left : tie.Need-mul-left
 mul-left c = search needs
 
--- src/edit.rt:213:16
 element-copy-out-left : tie.Need-element-copy-out-left
 element-copy-out-left c = search needs
 
--- src/edit.rt:214:21
 add-top : tie.Need-add-top
 add-top c = search needs
 
--- src/edit.rt:214:15
 mul-top : tie.Need-mul-top
 mul-top c = search needs
 
--- src/edit.rt:214:15
 element-copy-out-top : tie.Need-element-copy-out-top
 element-copy-out-top c = search needs
 
--- src/edit.rt:215:23
 add-width : tie.Need-add-width
 add-width c = search needs
 
--- src/edit.rt:215:17
 mul-width : tie.Need-mul-width
 mul-width c = search needs
 
--- src/edit.rt:215:17
 element-copy-out-width : tie.Need-element-copy-out-width
 element-copy-out-width c = search needs
 
--- src/edit.rt:216:24
 add-height : tie.Need-add-height
 add-height c = search needs
 
--- src/edit.rt:216:18
 mul-height : tie.Need-mul-height
 mul-height c = search needs
 
--- src/edit.rt:216:18
 element-copy-out-height : tie.Need-element-copy-out-height
 element-copy-out-height c = search needs
 
--- src/edit.rt:201:1
 returns-3 : tie.Need-returns-3
 returns-3 c = a-cut _ _ _ refl (c .before .before .before .before .before .if1 .left) (c .before .before .before .before .if2 .left)
 

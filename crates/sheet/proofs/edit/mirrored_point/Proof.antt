@@ -7,19 +7,14 @@ use Rattle.sheet.specs.Place.{point, movedTo, mirroredPoint}
 use borrow.Author.Needs.{needs}
 use Rattle.sheet.proofs.edit.mirrored_point.Statement.{statement}
 use Rattle.sheet.proofs.edit.mirrored_point.Tie as tie
-use Rattle.sheet.proofs.edit.mirrored_point.Reads as reads
-use Rattle.sheet.proofs.edit.mirrored_point.Lts as lts
-use Rattle.sheet.proofs.edit.less.Reads as less-reads
 
 mirrored : (f : Size) (p : FocusPoint) (x : ℕ) → x ≡ f .width - p .center .x
     → movedTo p (point x (p .center .y)) (p .size) ≡ mirroredPoint f p
 mirrored f p x e = rw e
 
--- src/edit.rt:69:12
 less-requires : tie.Need-less-requires
 less-requires c κs = search needs
 
--- src/edit.rt:62:1
 returns : tie.Need-returns
 returns c = mirrored (c .before .before .before .args .frame) _ _ (c .less .ensures)
 

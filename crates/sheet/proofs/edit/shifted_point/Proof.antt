@@ -6,23 +6,17 @@ use Rattle.sheet.specs.Place.{point, movedTo, shiftedPoint}
 use borrow.Author.Needs.{needs}
 use Rattle.sheet.proofs.edit.shifted_point.Statement.{statement}
 use Rattle.sheet.proofs.edit.shifted_point.Tie as tie
-use Rattle.sheet.proofs.edit.shifted_point.Reads as reads
-use Rattle.sheet.proofs.edit.shifted_point.Lts as lts
-use Rattle.sheet.proofs.edit.less.Reads as less-reads
 
 shifted : (l t : ℕ) (p : FocusPoint) (x y : ℕ) → x ≡ p .center .x - l → y ≡ p .center .y - t
     → movedTo p (point x y) (p .size) ≡ shiftedPoint l t p
 shifted l t p x y e g = rw (e, g)
 
--- src/edit.rt:88:12
 less-requires : tie.Need-less-requires
 less-requires c κs = search needs
 
--- src/edit.rt:89:12
 less-requires-2 : tie.Need-less-requires-2
 less-requires-2 c κs = search needs
 
--- src/edit.rt:81:1
 returns : tie.Need-returns
 returns c = shifted _ _ _ _ _ (c .before .less .ensures) (c .less2 .ensures)
 

@@ -9,10 +9,6 @@ use Rattle.sheet.specs.Place.{size, shiftedPoint, staysOn}
 use borrow.Author.Needs.{needs}
 use Rattle.sheet.proofs.edit.stays_on.Statement.{statement}
 use Rattle.sheet.proofs.edit.stays_on.Tie as tie
-use Rattle.sheet.proofs.edit.stays_on.Reads as reads
-use Rattle.sheet.proofs.edit.stays_on.Lts as lts
-use Rattle.fitting.proofs.focus.point_fits.Reads as point-fits-reads
-use Rattle.sheet.proofs.edit.shifted_point.Reads as shifted-point-reads
 
 module _ (l t w h : ℕ) (p : FocusPoint) where
   left-of : p .center .x < l → false ≡ staysOn l t w h p
@@ -29,23 +25,18 @@ module _ (l t w h : ℕ) (p : FocusPoint) where
     unfolding staysOn
     within b q e r g = rw (le-leb l (p .center .x) a, le-leb t (p .center .y) b, ← e) g
 
--- src/edit.rt:105:9
 returns : tie.Need-returns
 returns c = left-of _ _ _ _ _ (c .if1 .taken)
 
--- src/edit.rt:108:9
 returns-2 : tie.Need-returns-2
 returns-2 c = above _ _ _ _ _ (c .before .before .if1 .left) (c .if2 .taken)
 
--- src/edit.rt:111:39
 shifted-point-requires : tie.Need-shifted-point-requires
 shifted-point-requires c κs = search needs
 
--- src/edit.rt:111:5
 point-fits-requires : tie.Need-point-fits-requires
 point-fits-requires c κs = search needs
 
--- src/edit.rt:100:1
 returns-3 : tie.Need-returns-3
 returns-3 c = within _ _ _ _ _ (c .before .before .before .before .if1 .left) (c .before .before .if2 .left) _ (c .before .shifted-point .ensures) _ (c .point-fits .ensures)
 

@@ -7,19 +7,14 @@ use Rattle.sheet.specs.Place.{point, swapped, movedTo, turnedPoint}
 use borrow.Author.Needs.{needs}
 use Rattle.sheet.proofs.edit.turned_point.Statement.{statement}
 use Rattle.sheet.proofs.edit.turned_point.Tie as tie
-use Rattle.sheet.proofs.edit.turned_point.Reads as reads
-use Rattle.sheet.proofs.edit.turned_point.Lts as lts
-use Rattle.sheet.proofs.edit.less.Reads as less-reads
 
 turned : (f : Size) (p : FocusPoint) (x : ℕ) → x ≡ f .height - p .center .y
     → movedTo p (point x (p .center .x)) (swapped (p .size)) ≡ turnedPoint f p
 turned f p x e = rw e
 
--- src/edit.rt:46:12
 less-requires : tie.Need-less-requires
 less-requires c κs = search needs
 
--- src/edit.rt:39:1
 returns : tie.Need-returns
 returns c = turned (c .before .before .before .args .frame) _ _ (c .less .ensures)
 

@@ -3,30 +3,22 @@ use mathlib.Core.Path.{_≡_}
 use borrow.Author.Needs.{needs}
 use Rattle.sheet.proofs.edit.words_of.Statement.{statement}
 use Rattle.sheet.proofs.edit.words_of.Tie as tie
-use Rattle.sheet.proofs.edit.words_of.Reads as reads
-use Rattle.sheet.proofs.edit.words_of.Lts as lts
 
--- src/edit.rt:189:23
 enum-told : tie.Need-enum-told
 enum-told c = search needs
 
--- src/edit.rt:190:25
 enum-told-2 : tie.Need-enum-told-2
 enum-told-2 c = search needs
 
--- src/edit.rt:192:13
 enum-known-edit : tie.Need-enum-known-edit
 enum-known-edit c = search needs
 
--- src/edit.rt:185:1
 returns : tie.Need-returns
 returns c = search needs
 
--- src/edit.rt:185:1
 returns-2 : tie.Need-returns-2
 returns-2 c = search needs
 
--- src/edit.rt:185:1
 returns-3 : tie.Need-returns-3
 returns-3 c = rw (c .before .edit .given .1)
 

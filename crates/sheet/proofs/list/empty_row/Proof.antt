@@ -9,19 +9,14 @@ use Rattle.sheet.specs.Listing.{rowOf}
 use borrow.Author.Needs.{needs}
 use Rattle.sheet.proofs.list.empty_row.Statement.{statement}
 use Rattle.sheet.proofs.list.empty_row.Tie as tie
-use Rattle.sheet.proofs.list.empty_row.Reads as reads
-use Rattle.sheet.proofs.list.empty_row.Lts as lts
-use Rattle.placing.proofs.focus.no_places.Reads as no-places-reads
 
 no-row : (ps : List FocusPoint) → ps ≡ replicate 39 noPoint → _≡_ {A = Row} (record { points = ps; count = 0 }) (rowOf [])
 unfolding places
 no-row ps e = rw e
 
--- src/list.rt:106:9
 no-places-requires : tie.Need-no-places-requires
 no-places-requires c κs = search needs
 
--- src/list.rt:103:1
 returns : tie.Need-returns
 returns c = no-row _ (c .no-places .ensures)
 

@@ -4,32 +4,24 @@ use Rattle.reading.specs.Focus.{inFocusNumber}
 use borrow.Author.Needs.{needs}
 use Rattle.sheet.proofs.list.in_focus_number.Statement.{statement}
 use Rattle.sheet.proofs.list.in_focus_number.Tie as tie
-use Rattle.sheet.proofs.list.in_focus_number.Reads as reads
-use Rattle.sheet.proofs.list.in_focus_number.Lts as lts
 
--- src/list.rt:52:32
 enum-told : tie.Need-enum-told
 enum-told c = search needs
 
--- src/list.rt:53:24
 enum-told-2 : tie.Need-enum-told-2
 enum-told-2 c = search needs
 
--- src/list.rt:54:25
 enum-told-3 : tie.Need-enum-told-3
 enum-told-3 c = search needs
 
--- src/list.rt:48:1
 returns : tie.Need-returns
 unfolding inFocusNumber
 returns c = rw (c .enum-told .given .1)
 
--- src/list.rt:48:1
 returns-2 : tie.Need-returns-2
 unfolding inFocusNumber
 returns-2 c = rw (c .enum-told2 .given .1)
 
--- src/list.rt:48:1
 returns-3 : tie.Need-returns-3
 unfolding inFocusNumber
 returns-3 c = rw (c .enum-told3 .given .1)

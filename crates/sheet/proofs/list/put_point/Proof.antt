@@ -12,9 +12,6 @@ use Rattle.sheet.specs.Listing.{six}
 use borrow.Author.Needs.{needs}
 use Rattle.sheet.proofs.list.put_point.Statement.{statement}
 use Rattle.sheet.proofs.list.put_point.Tie as tie
-use Rattle.sheet.proofs.list.put_point.Reads as reads
-use Rattle.sheet.proofs.list.put_point.Lts as lts
-use Rattle.sheet.proofs.list.in_focus_number.Reads as in-focus-number-reads
 
 six-stores : (l : List ℕ) (k : ℕ) (p : FocusPoint) (f : ℕ) → f ≡ inFocusNumber (p .«in_focus») →
     set (set (set (set (set (set l k (p .number)) (k + 1) (p .center .x)) (k + 2) (p .center .y)) (k + 3) (p .size .width)) (k + 4) (p .size .height)) (k + 5) f
@@ -22,83 +19,63 @@ six-stores : (l : List ℕ) (k : ℕ) (p : FocusPoint) (f : ℕ) → f ≡ inFoc
 unfolding six
 six-stores l k p f e = rw (e, add-one k, add-two k, add-three k, add-four k, add-five k)
 
--- src/list.rt:66:5
 mul-out : tie.Need-mul-out
 mul-out c = search needs
 
--- src/list.rt:66:5
 slice-write-out : tie.Need-slice-write-out
 slice-write-out c = search needs
 
--- src/list.rt:67:9
 add-out : tie.Need-add-out
 add-out c = search needs
 
--- src/list.rt:67:5
 mul-out-2 : tie.Need-mul-out-2
 mul-out-2 c = search needs
 
--- src/list.rt:67:5
 slice-write-out-2 : tie.Need-slice-write-out-2
 slice-write-out-2 c = simp length-set (omega arith)
 
--- src/list.rt:68:9
 add-out-2 : tie.Need-add-out-2
 add-out-2 c = search needs
 
--- src/list.rt:68:5
 mul-out-3 : tie.Need-mul-out-3
 mul-out-3 c = search needs
 
--- src/list.rt:68:5
 slice-write-out-3 : tie.Need-slice-write-out-3
 slice-write-out-3 c = simp length-set (omega arith)
 
--- src/list.rt:69:9
 add-out-3 : tie.Need-add-out-3
 add-out-3 c = search needs
 
--- src/list.rt:69:5
 mul-out-4 : tie.Need-mul-out-4
 mul-out-4 c = search needs
 
--- src/list.rt:69:5
 slice-write-out-4 : tie.Need-slice-write-out-4
 slice-write-out-4 c = simp length-set (omega arith)
 
--- src/list.rt:70:9
 add-out-4 : tie.Need-add-out-4
 add-out-4 c = search needs
 
--- src/list.rt:70:5
 mul-out-5 : tie.Need-mul-out-5
 mul-out-5 c = search needs
 
--- src/list.rt:70:5
 slice-write-out-5 : tie.Need-slice-write-out-5
 slice-write-out-5 c = simp length-set (omega arith)
 
--- src/list.rt:71:19
 in-focus-number-requires : tie.Need-in-focus-number-requires
 in-focus-number-requires c κs = search needs
 
--- src/list.rt:71:9
 add-out-5 : tie.Need-add-out-5
 add-out-5 c = search needs
 
--- src/list.rt:71:5
 mul-out-6 : tie.Need-mul-out-6
 mul-out-6 c = search needs
 
--- src/list.rt:71:5
 slice-write-out-6 : tie.Need-slice-write-out-6
 slice-write-out-6 c = simp length-set (omega arith)
 
--- src/list.rt:59:1
 same-length : tie.Need-same-length
 same-length c = simp length-set
 
--- src/list.rt:59:1
 returns : tie.Need-returns
 returns c = six-stores (c .before .before .before .before .args .out .now) (c .before .before .before .before .args .at) (c .before .before .before .before .args .point) _ (c .in-focus-number .ensures)
 

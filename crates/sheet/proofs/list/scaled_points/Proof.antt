@@ -14,9 +14,6 @@ use Rattle.sheet.specs.Listing.{scaledAll}
 use borrow.Author.Needs.{needs}
 use Rattle.sheet.proofs.list.scaled_points.Statement.{statement}
 use Rattle.sheet.proofs.list.scaled_points.Tie as tie
-use Rattle.sheet.proofs.list.scaled_points.Reads as reads
-use Rattle.sheet.proofs.list.scaled_points.Lts as lts
-use Rattle.fitting.proofs.focus.scaled_point.Reads as scaled-point-reads
 
 module _ (old new : Size) (ps : List FocusPoint) (lp : length ps ≡ 39) where
   none-scaled : ps ≡ scaledAll old new (take 0 ps) ++ drop 0 ps
@@ -48,43 +45,33 @@ Inv-loop n old new points scaled₀ i₀ scaled i = (i ≤ n) × (scaled ≡ sca
 abbrev μ-loop : tie.MeasureT-loop
 μ-loop n old new points scaled₀ i₀ scaled i = n - i
 
--- src/list.rt:94:5
 loop-holds : tie.Need-loop-holds Inv-loop μ-loop
 loop-holds c = (omega arith, none-scaled _ _ (c .args .t1) (search needs))
 
--- src/list.rt:95:17
 mul-p : tie.Need-mul-p Inv-loop μ-loop
 mul-p c = omega (arith, (c .before .before .pre))
 
--- src/list.rt:95:17
 array-copy-out-p : tie.Need-array-copy-out-p Inv-loop μ-loop
 array-copy-out-p c = omega (arith, (c .before .before .pre))
 
--- src/list.rt:96:21
 scaled-point-requires : tie.Need-scaled-point-requires Inv-loop μ-loop
 scaled-point-requires c κs = search needs
 
--- src/list.rt:96:9
 mul-scaled : tie.Need-mul-scaled Inv-loop μ-loop
 mul-scaled c = omega (arith, (c .before .before .before .before .pre))
 
--- src/list.rt:96:9
 array-set-from-scaled : tie.Need-array-set-from-scaled Inv-loop μ-loop
 array-set-from-scaled c = omega (arith, (c .before .before .before .before .pre))
 
--- src/list.rt:97:9
 add-i : tie.Need-add-i Inv-loop μ-loop
 add-i c = omega arith
 
--- src/list.rt:94:5
 loop-less : tie.Need-loop-less Inv-loop μ-loop
 loop-less c = omega arith
 
--- src/list.rt:94:5
 loop-again : tie.Need-loop-again Inv-loop μ-loop
 loop-again c = (omega arith, one-scaled _ _ (c .before .before .before .before .args .t1) (search needs) _ _ ((c .before .before .before .loop .inv .1)) (omega (arith, (c .before .before .before .before .pre))) _ (c .scaled-point .ensures))
 
--- src/list.rt:88:1
 returns : tie.Need-returns Inv-loop μ-loop
 returns c = all-scaled _ _ (c .before .before .args .t1) (search needs) _ _ ((c .before .loop .inv .1)) _ ((c .before .loop .inv .0)) (c .loop-test .left)
 

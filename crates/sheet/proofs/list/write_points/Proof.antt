@@ -9,9 +9,6 @@ use Rattle.sheet.proofs.Buffer.{same-room, room-left, one-written, all-
 use borrow.Author.Needs.{needs}
 use Rattle.sheet.proofs.list.write_points.Statement.{statement}
 use Rattle.sheet.proofs.list.write_points.Tie as tie
-use Rattle.sheet.proofs.list.write_points.Reads as reads
-use Rattle.sheet.proofs.list.write_points.Lts as lts
-use Rattle.sheet.proofs.list.put_point.Reads as put-point-reads
 
 abbrev Inv-loop : tie.InvT-loop
 Inv-loop n out₀ points i₀ out i = (i ≤ n) × (out ≡ over (flat (take i points)) out₀)
@@ -19,44 +16,34 @@ Inv-loop n out₀ points i₀ out i = (i ≤ n) × (out ≡ over (flat (take i p
 abbrev μ-loop : tie.MeasureT-loop
 μ-loop n out₀ points i₀ out i = n - i
 
--- src/list.rt:80:5
 loop-holds : tie.Need-loop-holds Inv-loop μ-loop
 unfolding flat
 loop-holds c = (omega arith, refl)
 
--- src/list.rt:81:17
 mul-p : tie.Need-mul-p Inv-loop μ-loop
 mul-p c = omega (arith, (c .before .before .before .pre .0))
 
--- src/list.rt:81:17
 array-copy-out-p : tie.Need-array-copy-out-p Inv-loop μ-loop
 array-copy-out-p c = omega (arith, (c .before .before .before .pre .0))
 
--- src/list.rt:82:24
 mul-put-point : tie.Need-mul-put-point Inv-loop μ-loop
 mul-put-point c = omega (arith, (c .before .before .before .before .before .pre .0))
 
--- src/list.rt:82:9
 put-point-requires : tie.Need-put-point-requires Inv-loop μ-loop
 put-point-requires c κs = room-left (c .before .before .before .before .before .args .t1) (search needs) _ ((c .before .before .before .before .before .pre .0)) _ _ ((c .before .before .before .before .before .pre .1)) _ ((c .before .before .before .loop .inv .0)) ((c .before .before .before .loop .inv .1)) (c .before .before .loop-test .taken)
 
--- src/list.rt:83:9
 add-i : tie.Need-add-i Inv-loop μ-loop
 add-i c = omega arith
 
--- src/list.rt:80:5
 loop-less : tie.Need-loop-less Inv-loop μ-loop
 loop-less c = omega arith
 
--- src/list.rt:80:5
 loop-again : tie.Need-loop-again Inv-loop μ-loop
 loop-again c = (omega arith, one-written (c .before .before .before .before .before .before .before .before .args .t1) (search needs) _ ((c .before .before .before .before .before .before .before .before .pre .0)) _ _ ((c .before .before .before .before .before .before .before .before .pre .1)) _ ((c .before .before .before .before .before .before .loop .inv .0)) ((c .before .before .before .before .before .before .loop .inv .1)) (c .before .before .before .before .before .loop-test .taken) _ (c .before .before .put-point .ensures))
 
--- src/list.rt:75:1
 same-length : tie.Need-same-length Inv-loop μ-loop
 same-length c = same-room (c .before .before .before .args .t1) (search needs) _ ((c .before .before .before .pre .0)) _ _ ((c .before .before .before .pre .1)) _ ((c .before .loop .inv .0)) ((c .before .loop .inv .1))
 
--- src/list.rt:75:1
 returns : tie.Need-returns Inv-loop μ-loop
 returns c = all-written (c .before .before .before .args .t1) (search needs) _ ((c .before .before .before .pre .0)) _ _ ((c .before .before .before .pre .1)) _ ((c .before .loop .inv .0)) ((c .before .loop .inv .1)) (c .loop-test .left)
 
