@@ -1,5 +1,5 @@
--- Named points that are placed keep the promise of every accepted load. The idea: each window that a picture shows has sides of 16 bits,
--- and what is listed in a window was tested to fit it. Assumes nothing.
+-- Every load keeps the promise of Sound. The idea: what is listed in a window was tested to fit it, and a position that is placed fits
+-- its frame; the numbers 1 to 4 only refuse. Assumes nothing.
 use Prim.Native.Nat.{ℕ, _<_, _≤_}
 use mathlib.Core.Path.{_≡_, refl}
 use mathlib.Core.Bool.{Bool, true, false, cond, _&&_}
@@ -10,16 +10,22 @@ use lib.ListN.{length}
 use Rattle.reading.specs.Outcome.{Outcome, refused, accepted}
 use Rattle.reading.specs.declared.geometry.OptionalSize.{OptionalSize}
 use Rattle.reading.specs.declared.focus.FocusAreaMode.{FocusAreaMode}
-use Rattle.reading.specs.declared.nikon.CropHiSpeed.{CropHiSpeed}
 use Rattle.reading.specs.declared.nikon.Crop.{Crop}
-use Rattle.reading.specs.declared.nikon.Crop.the-variants.{Unrecorded, Recorded}
 use Rattle.reading.specs.declared.nikon.NamedPoints.{NamedPoints}
 use Rattle.reading.specs.declared.nikon.NamedPoints.the-variants.{Unnamed, Named}
 use Rattle.placing.specs.declared.named.Window.{Window}
 use Rattle.placing.specs.Load.{Focus}
-use Rattle.placing.specs.Points.{by, hasTable, points}
-use Rattle.placing.specs.Named.{whole, dx, medium, sameSize, samePlace, givenAs, noneOr, onCrop, uncropped, placedFrame, listed, hasNumber, focusIn, placedIn, namedOutcome, NamedSound}
+use Rattle.placing.specs.Points.{hasTable, points}
+use Rattle.placing.specs.Named.{placedFrame, listed, hasNumber, windowFocus, placedIn, namedOutcome, NamedSound}
 use Rattle.placing.specs.Sound.{Sound, SoundFocus}
+use Rattle.reading.specs.Block.{blockOf}
+use Rattle.reading.specs.Values.{manualFocusOf, cropHiSpeedOf, cropAreaOf}
+use Rattle.reading.specs.Record.{afInfo2Of}
+use Rattle.reading.specs.declared.nikon.CropArea.{CropArea}
+use Rattle.reading.specs.declared.nikon.FocusRecord.{FocusRecord}
+use Rattle.placing.specs.Recorded.{positionOf}
+use Rattle.placing.specs.Focus.{andThen, refusedToo, pointOf, recordsPosition, alone, placedOf, focusIn, focusOf, LoadSound}
+use Rattle.placing.proofs.Position.{position-fits, alone-sound}
 use Rattle.placing.proofs.Listed.{present, listed-room, listed-fit}
 
 -- what holds of both holds of the one that a test picks
@@ -27,39 +33,13 @@ either : {A : Type 0} (P : A → Type 0) (b : Bool) (x y : A) → P x → P y �
 either P true x y p q = p
 either P false x y p q = q
 
--- a window, if there is one, whose sides are 16-bit numbers
-abbrev Small : Window → Type 0
-Small w = (w .frame .width ≤ 65535) × (w .frame .height ≤ 65535)
-
-abbrev SmallIfAny : Outcome Window → Type 0
-SmallIfAny (refused n) = Unit
-SmallIfAny (accepted w) = Small w
-
-uncropped-small : (picture : OptionalSize) → Small (uncropped picture)
-unfolding uncropped
-uncropped-small picture =
-    either Small (givenAs picture (by 4512 3008)) medium whole (omega arith, omega arith) (omega arith, omega arith)
-
-crop-small : (crop : CropHiSpeed) (picture : OptionalSize) → SmallIfAny (onCrop crop picture)
-unfolding onCrop
-crop-small crop picture =
-    either SmallIfAny (eqb (crop .mode) 2 && (samePlace (crop .origin) (dx .origin) && noneOr picture (dx .frame))) (accepted dx)
-    (refused 6) (omega arith, omega arith) tt
-
-frame-small : (crop : Crop) (picture : OptionalSize) → SmallIfAny (placedFrame crop picture)
-unfolding placedFrame
-frame-small Unrecorded picture = uncropped-small picture
-frame-small (Recorded crop) picture =
-    either SmallIfAny (sameSize (crop .cropped) (crop .original)) (accepted (uncropped picture)) (onCrop crop picture)
-    (uncropped-small picture) (crop-small crop picture)
-
 module _ (primary mask : ℕ) (mode : FocusAreaMode) where
-  in-window : (w : Window) → Small w → Sound (placedIn (accepted w) primary mask mode)
+  in-window : (w : Window) → Sound (placedIn (accepted w) primary mask mode)
   unfolding placedIn
-  in-window w small = here (hasNumber primary (listed w primary mask)) refl
+  in-window w = here (hasNumber primary (listed w primary mask)) refl
     where
       here : (b : Bool) → hasNumber primary (listed w primary mask) ≡ b →
-          Sound (cond b (accepted (focusIn w primary mask mode)) (refused 6))
+          Sound (cond b (accepted (windowFocus w primary mask mode)) (refused 6))
       here true e =
           let i = present primary (listed w primary mask) e in
           record {
@@ -67,20 +47,41 @@ module _ (primary mask : ℕ) (mode : FocusAreaMode) where
             room = listed-room w primary mask points;
             primary-in = i;
             fit = listed-fit w primary mask points;
-            wide = small .0;
-            high = small .1;
           }
       here false e = tt
 
-  in-frame : (o : Outcome Window) → SmallIfAny o → Sound (placedIn o primary mask mode)
+  in-frame : (o : Outcome Window) → Sound (placedIn o primary mask mode)
   unfolding placedIn
-  in-frame (refused n) small = tt
-  in-frame (accepted w) small = in-window w small
+  in-frame (refused n) = tt
+  in-frame (accepted w) = in-window w
 
 pub named-sound : NamedSound
 unfolding namedOutcome
 named-sound Unnamed model crop picture mode = tt
 named-sound (Named code primary mask) model crop picture mode =
     either Sound (hasTable model && eqb code 3) (placedIn (placedFrame crop picture) primary mask mode) (refused 6)
-    (in-frame primary mask mode (placedFrame crop picture) (frame-small crop picture))
+    (in-frame primary mask mode (placedFrame crop picture))
     tt
+
+-- a record that is placed
+placed-sound : (r : FocusRecord) (crop : Crop) (area : CropArea) (picture : OptionalSize) (model : List ℕ) →
+    Sound (placedOf r crop area picture model)
+unfolding placedOf
+placed-sound r crop area picture model =
+    either Sound (recordsPosition r)
+    (andThen (positionOf (pointOf r) (r .frame) crop area picture) (λ q. alone (q .frame) (q .point) (r .«area_mode»)))
+    (namedOutcome (r .named) model crop picture (r .«area_mode»))
+    (alone-sound (r .«area_mode») (positionOf (pointOf r) (r .frame) crop area picture) (position-fits (pointOf r) (r .frame) crop area picture))
+    (named-sound (r .named) model crop picture (r .«area_mode»))
+
+-- what follows an outcome is sound if it is sound for every accepted value
+then-sound : {A : Type 0} (q : Outcome A) (g : A → Outcome Focus) → ((a : A) → Sound (g a)) → Sound (andThen q g)
+then-sound (refused n) g h = tt
+then-sound (accepted a) g h = h a
+
+pub focus-sound : LoadSound
+unfolding focusOf focusIn
+focus-sound s raw picture model =
+    then-sound (blockOf s) (λ o. focusIn o s raw picture model)
+    (λ o. then-sound (refusedToo 3 (manualFocusOf o s) (afInfo2Of o s)) (λ r. placedOf r (cropHiSpeedOf o s) (cropAreaOf o s raw) picture model)
+    (λ r. placed-sound r (cropHiSpeedOf o s) (cropAreaOf o s raw) picture model))

@@ -13,7 +13,8 @@ use Rattle.fitting.proofs.Booleans.{both}
 use Rattle.fitting.specs.Fit.{axisFits, hasZeroSide, centerLiesOn, areaFits, noArea, liesOn, pointFits}
 use Rattle.placing.specs.declared.points.TablePoint.{TablePoint}
 use Rattle.placing.specs.Points.{by, points, noTablePoint}
-use Rattle.placing.specs.Named.{sameSize, whole, dx, medium, fitsWindow}
+use Rattle.placing.specs.Load.{sameSize}
+use Rattle.placing.specs.Named.{whole, dx, medium, fitsWindow}
 use Rattle.placing.specs.Table.{rowHolds, rowsHold, TableHolds}
 
 pub table-holds : TableHolds

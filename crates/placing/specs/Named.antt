@@ -26,7 +26,7 @@ use Rattle.placing.specs.declared.named.PlacedFrame.the-variants.{Unconf
 use Rattle.placing.specs.declared.named.Placing.{Placing}
 use Rattle.placing.specs.declared.named.Placing.the-variants.{Left, Listed}
 use Rattle.placing.specs.declared.named.Listing.{Listing}
-use Rattle.placing.specs.Load.{Focus, places}
+use Rattle.placing.specs.Load.{Focus, places, sameSize}
 use Rattle.placing.specs.Sound.{Sound}
 use Rattle.placing.specs.Points.{by, hasTable, points}
 
@@ -45,9 +45,6 @@ dx = window (by 3936 2624) 1040 696
 -- "frame 6010 by 4006 from (3, 5)"
 abbrev pub medium : Window
 medium = window (by 6010 4006) 3 5
-
-unfoldable pub sameSize : Size → Size → Bool
-sameSize a b = eqb (a .width) (b .width) && eqb (a .height) (b .height)
 
 unfoldable pub samePlace : Point → Point → Bool
 samePlace a b = eqb (a .x) (b .x) && eqb (a .y) (b .y)
@@ -137,8 +134,8 @@ indexOf n [] = 0
 indexOf n (p ∷ ps) = cond (eqb (p .number) n) 0 (suc (indexOf n ps))
 
 -- what is placed in a window, with its primary
-abbrev pub focusIn : Window → ℕ → ℕ → FocusAreaMode → Focus
-focusIn w primary mask mode =
+abbrev pub windowFocus : Window → ℕ → ℕ → FocusAreaMode → Focus
+windowFocus w primary mask mode =
     record {
       frame = w .frame;
       points = listed w primary mask;
@@ -151,7 +148,7 @@ focusIn w primary mask mode =
 unfoldable pub placedIn : Outcome Window → ℕ → ℕ → FocusAreaMode → Outcome Focus
 placedIn (refused n) primary mask mode = refused n
 placedIn (accepted w) primary mask mode =
-    cond (hasNumber primary (listed w primary mask)) (accepted (focusIn w primary mask mode)) (refused 6)
+    cond (hasNumber primary (listed w primary mask)) (accepted (windowFocus w primary mask mode)) (refused 6)
 
 -- "no recorded position and named points cannot be placed": 6; "The model must match in full, and the layout code", which is 3
 unfoldable pub namedOutcome : NamedPoints → List ℕ → Crop → OptionalSize → FocusAreaMode → Outcome Focus

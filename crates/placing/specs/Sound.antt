@@ -15,15 +15,12 @@ abbrev pub AllFit : Size → List FocusPoint → Type 0
 AllFit frame [] = Unit
 AllFit frame (p ∷ ps) = (pointFits frame p ≡ true) × AllFit frame ps
 
--- one point at least and no more than the 39 places hold, the primary among them, each on the frame, and a frame whose sides are
--- 16-bit numbers
+-- one point at least and no more than the 39 places hold, the primary among them, and each on the frame
 pub record SoundFocus (f : Focus) : Type 0 where
   pub count-some : 0 < length (f .points)
   pub room : length (f .points) ≤ 39
   pub primary-in : f .primary < length (f .points)
   pub fit : AllFit (f .frame) (f .points)
-  pub wide : f .frame .width ≤ 65535
-  pub high : f .frame .height ≤ 65535
 
 -- a refused load promises nothing
 abbrev pub Sound : Outcome Focus → Type 0

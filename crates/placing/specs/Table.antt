@@ -6,7 +6,8 @@ use mathlib.Core.Path.{_≡_}
 use lib.Dec.{eqb}
 use Rattle.placing.specs.declared.points.TablePoint.{TablePoint}
 use Rattle.placing.specs.Points.{by, points}
-use Rattle.placing.specs.Named.{sameSize, whole, dx, medium, fitsWindow}
+use Rattle.placing.specs.Load.{sameSize}
+use Rattle.placing.specs.Named.{whole, dx, medium, fitsWindow}
 
 -- the row of number n: "boxes 164 square"; the point fits the whole frame and both windows
 unfoldable pub rowHolds : ℕ → TablePoint → Bool

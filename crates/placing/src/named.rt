@@ -17,7 +17,7 @@ ghost use mathlib.Core.Path.{_≡_};
 ghost use Prim.Native.Nat.{_≤_, _<_};
 ghost use lib.ListN.{take};
 ghost use Rattle.placing.specs.Load.{laidOut};
-ghost use Rattle.placing.specs.Named.{sameSize, samePlace, givenAs, noneOr, onCrop, uncropped, frameMeans, placedFrame, marked, isNamed, fitsWindow, lessOrigin, isListed, ifListed, listed, listingOf, indexOf, placedIn, namedOutcome};
+ghost use Rattle.placing.specs.Named.{samePlace, givenAs, noneOr, onCrop, uncropped, frameMeans, placedFrame, marked, isNamed, fitsWindow, lessOrigin, isListed, ifListed, listed, listingOf, indexOf, placedIn, namedOutcome};
 ghost use Rattle.reading.specs.Outcome.{accepted};
 
 // A part of the table's frame: the frame that points are placed in, and where it starts.
@@ -68,12 +68,6 @@ const MEDIUM: Window = Window {
     origin: Point { x: 3, y: 5 },
 };
 
-fn same_size(a: Size, b: Size) -> bool
-    ensures { λ r. ⌜ r ≡ sameSize a b ⌝ }
-{
-    a.width == b.width && a.height == b.height
-}
-
 fn same_place(a: Point, b: Point) -> bool
     ensures { λ r. ⌜ r ≡ samePlace a b ⌝ }
 {
@@ -85,7 +79,7 @@ fn given_as(picture: OptionalSize, size: Size) -> bool
     ensures { λ r. ⌜ r ≡ givenAs picture size ⌝ }
 {
     match picture {
-        OptionalSize::Given(given) => same_size(given, size),
+        OptionalSize::Given(given) => crate::focus::same_size(given, size),
         OptionalSize::Missing => false,
     }
 }
@@ -95,7 +89,7 @@ fn none_or(picture: OptionalSize, size: Size) -> bool
     ensures { λ r. ⌜ r ≡ noneOr picture size ⌝ }
 {
     match picture {
-        OptionalSize::Given(given) => same_size(given, size),
+        OptionalSize::Given(given) => crate::focus::same_size(given, size),
         OptionalSize::Missing => true,
     }
 }
@@ -138,7 +132,7 @@ pub fn placed_frame(crop: Crop, picture: OptionalSize) -> PlacedFrame
         Crop::Recorded(recorded) => {
             let cropped = recorded.cropped;
             let original = recorded.original;
-            if same_size(cropped, original) {
+            if crate::focus::same_size(cropped, original) {
                 return PlacedFrame::Confirmed(uncropped_window(picture));
             }
             on_crop(recorded, picture)

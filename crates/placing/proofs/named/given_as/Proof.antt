@@ -4,7 +4,8 @@ use mathlib.Core.Bool.{Bool, false}
 use Rattle.reading.specs.declared.geometry.Size.{Size}
 use Rattle.reading.specs.declared.geometry.OptionalSize.{OptionalSize}
 use Rattle.reading.specs.declared.geometry.OptionalSize.the-variants.{Missing, Given}
-use Rattle.placing.specs.Named.{sameSize, givenAs}
+use Rattle.placing.specs.Load.{sameSize}
+use Rattle.placing.specs.Named.{givenAs}
 use borrow.Author.Needs.{needs}
 use Rattle.placing.proofs.named.given_as.Statement.{statement}
 use Rattle.placing.proofs.named.given_as.Tie as tie

@@ -4,7 +4,8 @@ use mathlib.Core.Bool.{Bool, true}
 use Rattle.reading.specs.declared.geometry.Size.{Size}
 use Rattle.reading.specs.declared.geometry.OptionalSize.{OptionalSize}
 use Rattle.reading.specs.declared.geometry.OptionalSize.the-variants.{Missing, Given}
-use Rattle.placing.specs.Named.{sameSize, noneOr}
+use Rattle.placing.specs.Load.{sameSize}
+use Rattle.placing.specs.Named.{noneOr}
 use borrow.Author.Needs.{needs}
 use Rattle.placing.proofs.named.none_or.Statement.{statement}
 use Rattle.placing.proofs.named.none_or.Tie as tie

@@ -8,7 +8,8 @@ use Rattle.reading.specs.declared.nikon.Crop.{Crop}
 use Rattle.reading.specs.declared.nikon.Crop.the-variants.{Unrecorded, Recorded}
 use Rattle.placing.specs.declared.named.Window.{Window}
 use Rattle.placing.specs.declared.named.PlacedFrame.{PlacedFrame}
-use Rattle.placing.specs.Named.{sameSize, onCrop, uncropped, placedFrame, frameMeans}
+use Rattle.placing.specs.Load.{sameSize}
+use Rattle.placing.specs.Named.{onCrop, uncropped, placedFrame, frameMeans}
 use borrow.Author.Needs.{needs}
 use Rattle.placing.proofs.named.placed_frame.Statement.{statement}
 use Rattle.placing.proofs.named.placed_frame.Tie as tie

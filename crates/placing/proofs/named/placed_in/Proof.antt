@@ -15,7 +15,7 @@ use Rattle.placing.specs.declared.named.Window.{Window}
 use Rattle.placing.specs.declared.named.Listing.{Listing}
 use Rattle.placing.specs.Load.{noPoint, places, refusalOf, refusedBy, laidOut}
 use Rattle.placing.specs.Points.{points as table}
-use Rattle.placing.specs.Named.{listed, listingOf, hasNumber, indexOf, focusIn, placedIn}
+use Rattle.placing.specs.Named.{listed, listingOf, hasNumber, indexOf, windowFocus, placedIn}
 use Rattle.placing.proofs.Listed.{present, absent, listed-room}
 use borrow.Author.Needs.{needs}
 use Rattle.placing.proofs.named.placed_in.Statement.{statement}
@@ -42,7 +42,7 @@ module _ (w : Window) (primary mask : ℕ) (mode : FocusAreaMode) (l : Listing) 
     none h r er = here (hasNumber primary (listed w primary mask)) refl
       where
         here : (b : Bool) → hasNumber primary (listed w primary mask) ≡ b →
-            r ≡ laidOut (cond b (accepted (focusIn w primary mask mode)) (refused 6))
+            r ≡ laidOut (cond b (accepted (windowFocus w primary mask mode)) (refused 6))
         here true e = absurd (omega (arith, present primary (listed w primary mask) e, at-index, counted))
         here false e = er
 
@@ -72,7 +72,7 @@ module _ (w : Window) (primary mask : ℕ) (mode : FocusAreaMode) (l : Listing) 
               «area_mode» = mode;
               origin = Table;
             })
-            (laidOut (cond b (accepted (focusIn w primary mask mode)) (refused 6)))
+            (laidOut (cond b (accepted (windowFocus w primary mask mode)) (refused 6)))
         here true e = rw (at-index, el)
         here false e = absurd (omega (arith, absent primary (listed w primary mask) e, at-index, counted))
 
