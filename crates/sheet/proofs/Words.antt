@@ -30,15 +30,28 @@ getD-sets-at (a ∷ vs) l k (suc j) h g =
 pub stored-kept : (vs ws : List ℕ) (n i : ℕ) → i < n → editAt (sets ws (n * 5) vs) i ≡ editAt ws i
 unfolding editAt
 stored-kept vs ws n i h =
-    rw (getD-sets-below vs ws (n * 5) (i * 5) (omega arith), getD-sets-below vs ws (n * 5) (i * 5 + 1) (omega arith), getD-sets-below vs ws (n * 5) (i * 5 + 2) (omega arith), getD-sets-below vs ws (n * 5) (i * 5 + 3) (omega arith), getD-sets-below vs ws (n * 5) (i * 5 + 4) (omega arith))
+    rw (
+      getD-sets-below vs ws (n * 5) (i * 5) (omega arith),
+      getD-sets-below vs ws (n * 5) (i * 5 + 1) (omega arith),
+      getD-sets-below vs ws (n * 5) (i * 5 + 2) (omega arith),
+      getD-sets-below vs ws (n * 5) (i * 5 + 3) (omega arith),
+      getD-sets-below vs ws (n * 5) (i * 5 + 4) (omega arith),
+    )
 
 five : (k l t w h : ℕ) (ws : List ℕ) (n : ℕ) → n * 5 + 5 ≤ length ws
     → editAt (sets ws (n * 5) (k ∷ l ∷ t ∷ w ∷ h ∷ [])) n ≡ editOf k l t w h
 unfolding editAt
 five k l t w h ws n g =
     let vs = k ∷ l ∷ t ∷ w ∷ h ∷ [] in
-    let z : getD (sets ws (n * 5) vs) (n * 5) 0 ≡ k = rw (add-zero (n * 5)) at (getD-sets-at vs ws (n * 5) 0 (omega arith) g) in
-    rw (z, getD-sets-at vs ws (n * 5) 1 (omega arith) g, getD-sets-at vs ws (n * 5) 2 (omega arith) g, getD-sets-at vs ws (n * 5) 3 (omega arith) g, getD-sets-at vs ws (n * 5) 4 (omega arith) g)
+    let z : getD (sets ws (n * 5) vs) (n * 5) 0 ≡ k =
+    rw (add-zero (n * 5)) at (getD-sets-at vs ws (n * 5) 0 (omega arith) g) in
+    rw (
+      z,
+      getD-sets-at vs ws (n * 5) 1 (omega arith) g,
+      getD-sets-at vs ws (n * 5) 2 (omega arith) g,
+      getD-sets-at vs ws (n * 5) 3 (omega arith) g,
+      getD-sets-at vs ws (n * 5) 4 (omega arith) g,
+    )
 
 -- the stored one
 pub stored-last : (e : Edit) (ws : List ℕ) (n : ℕ) → n * 5 + 5 ≤ length ws → editAt (sets ws (n * 5) (wordsOf e)) n ≡ e
@@ -47,9 +60,14 @@ stored-last Mirror ws n g = five 1 0 0 0 0 ws n g
 stored-last (Cut l t w h) ws n g = five 2 l t w h ws n g
 
 -- the code's five stores
-pub five-stores : (e : Edit) (vs l : List ℕ) (k : ℕ) → vs ≡ wordsOf e
-    → set (set (set (set (set l k (getD vs 0 0)) (k + 1) (getD vs 1 0)) (k + 2) (getD vs 2 0)) (k + 3) (getD vs 3 0)) (k + 4) (getD vs 4 0)
-    ≡ sets l k (wordsOf e)
+abbrev pub fiveStores : List ℕ → ℕ → List ℕ → List ℕ
+fiveStores l k vs =
+    set
+    (set (set (set (set l k (getD vs 0 0)) (k + 1) (getD vs 1 0)) (k + 2) (getD vs 2 0)) (k + 3) (getD vs 3 0))
+    (k + 4)
+    (getD vs 4 0)
+
+pub five-stores : (e : Edit) (vs l : List ℕ) (k : ℕ) → vs ≡ wordsOf e → fiveStores l k vs ≡ sets l k (wordsOf e)
 five-stores Turn vs l k g = rw (g, add-one k, add-two k, add-three k, add-four k)
 five-stores Mirror vs l k g = rw (g, add-one k, add-two k, add-three k, add-four k)
 five-stores (Cut a b c d) vs l k g = rw (g, add-one k, add-two k, add-three k, add-four k)

@@ -16,6 +16,9 @@ ghost use Rattle.sheet.specs.Sheet.{edited, freshSheet, loadSheet, usabl
 pub mod edit; // an edit, and one point under edits
 pub mod list; // the listing of the points where they are now, and in another frame
 
+// How many edits may stand.
+const MOST_EDITS: usize = 64;
+
 // The frame, points, primary, area mode and origin of a load, and the edits that stand, in their order. The first `count` of 39
 // places hold a point each, the first `standing` of 64 groups of five words an edit each. Nothing is loaded in a new sheet.
 pub struct Sheet {
@@ -130,7 +133,7 @@ impl Sheet {
         if self.count <= self.primary {
             return false;
         }
-        self.standing <= 64
+        self.standing <= MOST_EDITS
     }
 
     // The point at an index, where the standing edits carry it.
@@ -173,7 +176,7 @@ impl Sheet {
                 sheet: self,
             };
         }
-        if 64 <= self.standing {
+        if MOST_EDITS <= self.standing {
             return Edited {
                 answer: EditAnswer::Full,
                 sheet: self,
@@ -210,7 +213,7 @@ impl Sheet {
                 sheet: self,
             };
         }
-        if 64 <= self.standing {
+        if MOST_EDITS <= self.standing {
             return Edited {
                 answer: EditAnswer::Full,
                 sheet: self,

@@ -1,5 +1,5 @@
 -- `Sheet::add`: the shared refusals, then the sheet that `with_edit` ensures. Assumes nothing.
-use mathlib.Core.Path.{_≡_, ap, _∙_}
+use mathlib.Core.Path.{ap, _∙_}
 use Rattle.sheet.specs.declared.EditAnswer.the-variants.{Accepted}
 use Rattle.sheet.specs.Sheet.{edited}
 use Rattle.sheet.proofs.Usable.{when-empty, when-full, when-open}
@@ -20,7 +20,10 @@ with-edit-requires : tie.Need-with-edit-requires
 with-edit-requires c κs = search needs
 
 returns-3 : tie.Need-returns-3
-returns-3 c = ap (edited Accepted) (c .with-edit .ensures) ∙ when-open _ _ (c .before .before .before .before .is-usable .ensures) _ (c .before .before .before .if1 .left) (c .before .if2 .left)
+returns-3 c =
+    ap (edited Accepted) (c .with-edit .ensures) ∙ when-open _ _
+    (c .before .before .before .before .is-usable .ensures) _ (c .before .before .before .if1 .left)
+    (c .before .if2 .left)
 
 pub add-spec : {M : Type 1} → statement M
 add-spec = tie.close (tie.spec is-usable-requires returns returns-2 with-edit-requires returns-3)

@@ -11,8 +11,8 @@ use Rattle.sheet.specs.declared.edit.Placed.{Placed}
 use Rattle.sheet.specs.declared.EditAnswer.the-variants.{Accepted, BadCut, DropsPrimary}
 use Rattle.sheet.specs.declared.Sheet.{Sheet}
 use Rattle.sheet.specs.Place.{moved}
-use Rattle.sheet.specs.Sheet.{edited, usable, placedAt, presentFrame, addEdit, ifOpen, cutPasses, keepsPrimary, cutSheet}
-use Rattle.sheet.proofs.Usable.{Counts, counts, when-empty, when-full, when-open}
+use Rattle.sheet.specs.Sheet.{edited, usable, placedAt, presentFrame, addEdit, cutPasses, keepsPrimary, cutSheet}
+use Rattle.sheet.proofs.Usable.{counts, when-empty, when-full, when-open}
 use borrow.Author.Needs.{needs}
 use Rattle.sheet.proofs.Sheet.cut.Statement.{statement}
 use Rattle.sheet.proofs.Sheet.cut.Tie as tie
@@ -54,25 +54,46 @@ unfolding cutSheet
 returns-2 c = when-full _ _ (c .before .before .before .is-usable .ensures) _ (c .before .before .if1 .left) (c .if2 .taken)
 
 place-at-requires : tie.Need-place-at-requires
-place-at-requires c κs = let u = counts _ _ (c .before .before .before .is-usable .ensures) (c .before .before .if1 .left) in omega arith
+place-at-requires c κs =
+    let u = counts _ _ (c .before .before .before .is-usable .ensures) (c .before .before .if1 .left) in
+    omega arith
 
 cut-passes-requires : tie.Need-cut-passes-requires
 cut-passes-requires c κs = search needs
 
 returns-3 : tie.Need-returns-3
-returns-3 c = passes-frame _ _ _ _ _ _ (c .before .before .before .before .before .before .before .is-usable .ensures) (c .before .before .before .before .before .before .if1 .left) (c .before .before .before .before .if2 .left) _ (frame-of _ _ (c .before .before .before .place-at .ensures)) _ (c .before .cut-passes .ensures) (c .if3 .taken)
+returns-3 c =
+    passes-frame _ _ _ _ _ _ (c .before .before .before .before .before .before .before .is-usable .ensures)
+    (c .before .before .before .before .before .before .if1 .left) (c .before .before .before .before .if2 .left) _
+    (frame-of _ _ (c .before .before .before .place-at .ensures)) _ (c .before .cut-passes .ensures) (c .if3 .taken)
 
 move-by-requires : tie.Need-move-by-requires
 move-by-requires c κs = search needs
 
 returns-4 : tie.Need-returns-4
-returns-4 c = drops _ _ _ _ _ _ (c .before .before .before .before .before .before .before .before .before .before .is-usable .ensures) (c .before .before .before .before .before .before .before .before .before .if1 .left) (c .before .before .before .before .before .before .before .if2 .left) _ (frame-of _ _ (c .before .before .before .before .before .before .place-at .ensures)) _ (c .before .before .before .before .cut-passes .ensures) (c .before .before .before .if3 .left) _ (listed-by _ _ (c .before .before .before .before .before .before .place-at .ensures) _ _ (c .before .before .move-by .ensures)) (c .if4 .taken)
+returns-4 c =
+    drops _ _ _ _ _ _
+    (c .before .before .before .before .before .before .before .before .before .before .is-usable .ensures)
+    (c .before .before .before .before .before .before .before .before .before .if1 .left)
+    (c .before .before .before .before .before .before .before .if2 .left) _
+    (frame-of _ _ (c .before .before .before .before .before .before .place-at .ensures)) _
+    (c .before .before .before .before .cut-passes .ensures) (c .before .before .before .if3 .left) _
+    (listed-by _ _ (c .before .before .before .before .before .before .place-at .ensures) _ _ (c .before .before .move-by .ensures))
+    (c .if4 .taken)
 
 with-edit-requires : tie.Need-with-edit-requires
 with-edit-requires c κs = search needs
 
 returns-5 : tie.Need-returns-5
-returns-5 c = done _ _ _ _ _ _ (c .before .before .before .before .before .before .before .before .before .before .before .is-usable .ensures) (c .before .before .before .before .before .before .before .before .before .before .if1 .left) (c .before .before .before .before .before .before .before .before .if2 .left) _ (frame-of _ _ (c .before .before .before .before .before .before .before .place-at .ensures)) _ (c .before .before .before .before .before .cut-passes .ensures) (c .before .before .before .before .if3 .left) _ (listed-by _ _ (c .before .before .before .before .before .before .before .place-at .ensures) _ _ (c .before .before .before .move-by .ensures)) (c .before .if4 .left) _ (c .with-edit .ensures)
+returns-5 c =
+    done _ _ _ _ _ _
+    (c .before .before .before .before .before .before .before .before .before .before .before .is-usable .ensures)
+    (c .before .before .before .before .before .before .before .before .before .before .if1 .left)
+    (c .before .before .before .before .before .before .before .before .if2 .left) _
+    (frame-of _ _ (c .before .before .before .before .before .before .before .place-at .ensures)) _
+    (c .before .before .before .before .before .cut-passes .ensures) (c .before .before .before .before .if3 .left) _
+    (listed-by _ _ (c .before .before .before .before .before .before .before .place-at .ensures) _ _ (c .before .before .before .move-by .ensures))
+    (c .before .if4 .left) _ (c .with-edit .ensures)
 
 pub cut-spec : {M : Type 1} → statement M
 cut-spec =

@@ -14,8 +14,8 @@ use Rattle.sheet.specs.declared.Sheet.{Sheet}
 use Rattle.sheet.specs.declared.list.ListAnswer.the-variants.{Empty, ZeroBox, Short, Listed}
 use Rattle.sheet.specs.declared.list.Present.{Present}
 use Rattle.sheet.specs.Sheet.{usable, presentFrame}
-use Rattle.sheet.specs.Listing.{flat, over, listed, listCount, presentOf, scaledAll, headIn, fitAnswer, fitBuffer}
-use Rattle.sheet.proofs.Usable.{Counts, counts}
+use Rattle.sheet.specs.Listing.{flat, over, listed, listCount, presentOf, scaledAll, fitAnswer, fitBuffer}
+use Rattle.sheet.proofs.Usable.{counts}
 use Rattle.sheet.proofs.Present.{count-of, count-room, frame-of, points-of, short, long, head-of}
 use borrow.Author.Needs.{needs}
 use Rattle.sheet.proofs.Sheet.fit.Statement.{statement}
@@ -74,28 +74,54 @@ has-zero-side-requires : tie.Need-has-zero-side-requires
 has-zero-side-requires c κs = search needs
 
 returns-2 : tie.Need-returns-2
-returns-2 c = zero-box _ _ _ (c .before .before .before .is-usable .ensures) _ (c .before .before .if1 .left) _ (c .before .has-zero-side .ensures) (c .if2 .taken)
+returns-2 c =
+    zero-box _ _ _ (c .before .before .before .is-usable .ensures) _ (c .before .before .if1 .left) _
+    (c .before .has-zero-side .ensures) (c .if2 .taken)
 
 present-requires : tie.Need-present-requires
-present-requires c κs = let u = counts _ _ (c .before .before .before .is-usable .ensures) (c .before .before .if1 .left) in (u .points, u .primary, u .edits)
+present-requires c κs =
+    let u = counts _ _ (c .before .before .before .is-usable .ensures) (c .before .before .if1 .left) in (
+      u .points,
+      u .primary,
+      u .edits,
+    )
 
 mul-if3 : tie.Need-mul-if3
-mul-if3 c = omega (arith, count-room _ _ (c .present .ensures) (counts _ _ (c .before .before .before .before .is-usable .ensures) (c .before .before .before .if1 .left)))
+mul-if3 c =
+    omega
+    (arith, count-room _ _ (c .present .ensures) (counts _ _ (c .before .before .before .before .is-usable .ensures) (c .before .before .before .if1 .left)))
 
 returns-3 : tie.Need-returns-3
-returns-3 c = no-room _ _ _ (c .before .before .before .before .before .is-usable .ensures) _ (c .before .before .before .before .if1 .left) _ (c .before .before .before .has-zero-side .ensures) (c .before .before .if2 .left) _ (c .before .present .ensures) (c .if3 .taken)
+returns-3 c =
+    no-room _ _ _ (c .before .before .before .before .before .is-usable .ensures) _
+    (c .before .before .before .before .if1 .left) _ (c .before .before .before .has-zero-side .ensures)
+    (c .before .before .if2 .left) _ (c .before .present .ensures) (c .if3 .taken)
 
 scaled-points-requires : tie.Need-scaled-points-requires
-scaled-points-requires c κs = count-room _ _ (c .before .before .before .present .ensures) (counts _ _ (c .before .before .before .before .before .before .before .is-usable .ensures) (c .before .before .before .before .before .before .if1 .left))
+scaled-points-requires c κs =
+    count-room _ _ (c .before .before .before .present .ensures)
+    (counts _ _ (c .before .before .before .before .before .before .before .is-usable .ensures) (c .before .before .before .before .before .before .if1 .left))
 
 write-points-requires : tie.Need-write-points-requires
-write-points-requires c κs = (count-room _ _ (c .before .before .before .before .before .present .ensures) (counts _ _ (c .before .before .before .before .before .before .before .before .before .is-usable .ensures) (c .before .before .before .before .before .before .before .before .if1 .left)), (c .before .before .before .before .if3 .left))
+write-points-requires c κs = (
+  count-room _ _ (c .before .before .before .before .before .present .ensures)
+      (counts _ _ (c .before .before .before .before .before .before .before .before .before .is-usable .ensures) (c .before .before .before .before .before .before .before .before .if1 .left)),
+  c .before .before .before .before .if3 .left,
+)
 
 same-length : tie.Need-same-length
 same-length c = search needs
 
 returns-4 : tie.Need-returns-4
-returns-4 c = all-listed _ _ _ (c .before .before .before .before .before .before .before .before .before .before .before .before .is-usable .ensures) _ (c .before .before .before .before .before .before .before .before .before .before .before .if1 .left) _ (c .before .before .before .before .before .before .before .before .before .before .has-zero-side .ensures) (c .before .before .before .before .before .before .before .before .before .if2 .left) _ (c .before .before .before .before .before .before .before .before .present .ensures) (c .before .before .before .before .before .before .before .if3 .left) _ (c .before .before .before .before .scaled-points .ensures) _ (c .before .before .write-points .ensures)
+returns-4 c =
+    all-listed _ _ _
+    (c .before .before .before .before .before .before .before .before .before .before .before .before .is-usable .ensures)
+    _ (c .before .before .before .before .before .before .before .before .before .before .before .if1 .left) _
+    (c .before .before .before .before .before .before .before .before .before .before .has-zero-side .ensures)
+    (c .before .before .before .before .before .before .before .before .before .if2 .left) _
+    (c .before .before .before .before .before .before .before .before .present .ensures)
+    (c .before .before .before .before .before .before .before .if3 .left) _
+    (c .before .before .before .before .scaled-points .ensures) _ (c .before .before .write-points .ensures)
 
 pub fit-spec : {M : Type 1} → statement M
 fit-spec =

@@ -38,7 +38,9 @@ returns-3 : tie.Need-returns-3
 returns-3 c = no-primary _ (c .before .before .before .before .if1 .left) (c .before .before .if2 .left) (c .if3 .taken)
 
 returns-4 : tie.Need-returns-4
-returns-4 c = by-edits _ (c .before .before .before .before .before .if1 .left) (c .before .before .before .if2 .left) (c .before .if3 .left)
+returns-4 c =
+    by-edits _ (c .before .before .before .before .before .if1 .left) (c .before .before .before .if2 .left)
+    (c .before .if3 .left)
 
 pub is-usable-spec : {M : Type 1} → statement M
 is-usable-spec = tie.close (tie.spec returns returns-2 returns-3 returns-4)

@@ -1,5 +1,5 @@
 -- `Sheet::list`: the tests of listAnswer and listBuffer, in the code's order. Assumes nothing.
-use mathlib.Core.Path.{_≡_, refl, sym, ap, _∙_}
+use mathlib.Core.Path.{_≡_, refl, ap, _∙_}
 use mathlib.Core.Bool.{Bool, true, false, not}
 use mathlib.Core.List.{List}
 use Prim.Native.Nat.{ℕ, _*_, _<_, _≤_}
@@ -10,9 +10,9 @@ use Rattle.fitting.specs.declared.focus.FocusPoint.{FocusPoint}
 use Rattle.sheet.specs.declared.Sheet.{Sheet}
 use Rattle.sheet.specs.declared.list.ListAnswer.the-variants.{Empty, Short, Listed}
 use Rattle.sheet.specs.declared.list.Present.{Present}
-use Rattle.sheet.specs.Sheet.{usable, presentFrame}
+use Rattle.sheet.specs.Sheet.{usable}
 use Rattle.sheet.specs.Listing.{flat, over, presentOf, headIn, listAnswer, listBuffer}
-use Rattle.sheet.proofs.Usable.{Counts, counts}
+use Rattle.sheet.proofs.Usable.{counts}
 use Rattle.sheet.proofs.Present.{count-room, frame-of, points-of, short, long, head-of}
 use borrow.Author.Needs.{needs}
 use Rattle.sheet.proofs.Sheet.list.Statement.{statement}
@@ -45,22 +45,40 @@ returns : tie.Need-returns
 returns c = empty _ _ (c .before .is-usable .ensures) _ (c .if1 .taken)
 
 present-requires : tie.Need-present-requires
-present-requires c κs = let u = counts _ _ (c .before .is-usable .ensures) (c .if1 .left) in (u .points, u .primary, u .edits)
+present-requires c κs =
+    let u = counts _ _ (c .before .is-usable .ensures) (c .if1 .left) in (
+      u .points,
+      u .primary,
+      u .edits,
+    )
 
 mul-if2 : tie.Need-mul-if2
-mul-if2 c = omega (arith, count-room _ _ (c .present .ensures) (counts _ _ (c .before .before .is-usable .ensures) (c .before .if1 .left)))
+mul-if2 c =
+    omega
+    (arith, count-room _ _ (c .present .ensures) (counts _ _ (c .before .before .is-usable .ensures) (c .before .if1 .left)))
 
 returns-2 : tie.Need-returns-2
-returns-2 c = no-room _ _ (c .before .before .before .is-usable .ensures) _ (c .before .before .if1 .left) _ (c .before .present .ensures) (c .if2 .taken)
+returns-2 c =
+    no-room _ _ (c .before .before .before .is-usable .ensures) _ (c .before .before .if1 .left) _
+    (c .before .present .ensures) (c .if2 .taken)
 
 write-points-requires : tie.Need-write-points-requires
-write-points-requires c κs = (count-room _ _ (c .before .before .before .present .ensures) (counts _ _ (c .before .before .before .before .before .is-usable .ensures) (c .before .before .before .before .if1 .left)), (c .before .before .if2 .left))
+write-points-requires c κs = (
+  count-room _ _ (c .before .before .before .present .ensures)
+      (counts _ _ (c .before .before .before .before .before .is-usable .ensures) (c .before .before .before .before .if1 .left)),
+  c .before .before .if2 .left,
+)
 
 same-length : tie.Need-same-length
 same-length c = search needs
 
 returns-3 : tie.Need-returns-3
-returns-3 c = all-listed _ _ (c .before .before .before .before .before .before .before .before .before .is-usable .ensures) _ (c .before .before .before .before .before .before .before .before .if1 .left) _ (c .before .before .before .before .before .before .before .present .ensures) (c .before .before .before .before .before .before .if2 .left) _ (c .before .before .before .write-points .ensures)
+returns-3 c =
+    all-listed _ _ (c .before .before .before .before .before .before .before .before .before .is-usable .ensures) _
+    (c .before .before .before .before .before .before .before .before .if1 .left) _
+    (c .before .before .before .before .before .before .before .present .ensures)
+    (c .before .before .before .before .before .before .if2 .left) _
+    (c .before .before .before .write-points .ensures)
 
 pub list-spec : {M : Type 1} → statement M
 list-spec =

@@ -56,10 +56,10 @@ enum-told : tie.Need-enum-told
 enum-told c = search needs
 
 returns : tie.Need-returns
-returns c = when-refused _ _ _ _ (c .before .before .before .focus .ensures) ((c .before .answer .given .1))
+returns c = when-refused _ _ _ _ (c .before .before .before .focus .ensures) (c .before .answer .given .1)
 
 returns-2 : tie.Need-returns-2
-returns-2 c = when-placed _ _ _ (c .before .before .before .before .focus .ensures) ((c .before .before .enum-told .given .1))
+returns-2 c = when-placed _ _ _ (c .before .before .before .before .focus .ensures) (c .before .before .enum-told .given .1)
 
 pub load-spec : {M : Type 1} → statement M
 load-spec = tie.close (tie.spec focus-requires enum-known-answer enum-told returns returns-2)

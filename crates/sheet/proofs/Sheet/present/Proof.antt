@@ -22,16 +22,23 @@ empty-row-requires c κs = search needs
 
 listed-to-requires : tie.Need-listed-to-requires
 unfolding listing
-listed-to-requires c κs = (omega arith, omega (arith, (c .before .pre)), (c .before .pre .2), (c .empty-row .ensures))
+listed-to-requires c κs = (omega arith, omega (arith, c .before .pre), c .before .pre .2, c .empty-row .ensures)
 
 listed-to-requires-2 : tie.Need-listed-to-requires-2
-listed-to-requires-2 c κs = (omega (arith, (c .before .before .pre)), (c .before .before .pre .0), (c .before .before .pre .2), (c .listed-to .ensures))
+listed-to-requires-2 c κs = (
+  omega (arith, c .before .before .pre),
+  c .before .before .pre .0,
+  c .before .before .pre .2,
+  c .listed-to .ensures,
+)
 
 place-at-requires : tie.Need-place-at-requires
-place-at-requires c κs = omega (arith, (c .before .before .before .pre))
+place-at-requires c κs = omega (arith, c .before .before .before .pre)
 
 returns : tie.Need-returns
-returns c = is-present _ _ _ _ (c .before .before .before .before .listed-to .ensures) (c .before .before .before .listed-to2 .ensures) (c .before .before .place-at .ensures)
+returns c =
+    is-present _ _ _ _ (c .before .before .before .before .listed-to .ensures)
+    (c .before .before .before .listed-to2 .ensures) (c .before .before .place-at .ensures)
 
 pub present-spec : {M : Type 1} → statement M
 present-spec =

@@ -2,21 +2,20 @@
 use mathlib.Core.Path.{_≡_, ap}
 use mathlib.Core.List.{List}
 use Prim.Native.Nat.{ℕ, _+_, _*_}
-use lib.ListN.{getD, set}
 use Rattle.sheet.specs.declared.edit.Edit.{Edit}
 use Rattle.sheet.specs.declared.Sheet.{Sheet}
 use Rattle.sheet.specs.Place.{wordsOf}
 use Rattle.sheet.specs.Sheet.{withEdits, addEdit}
-use Rattle.sheet.proofs.Words.{five-stores}
+use Rattle.sheet.proofs.Words.{fiveStores, five-stores}
 use borrow.Author.Needs.{needs}
 use Rattle.sheet.proofs.Sheet.with_edit.Statement.{statement}
 use Rattle.sheet.proofs.Sheet.with_edit.Tie as tie
 
 with-words : (s : Sheet) (e : Edit) (vs : List ℕ) → vs ≡ wordsOf e
-    → withEdits s (set (set (set (set (set (s .edits) (s .standing * 5) (getD vs 0 0)) (s .standing * 5 + 1) (getD vs 1 0)) (s .standing * 5 + 2) (getD vs 2 0)) (s .standing * 5 + 3) (getD vs 3 0)) (s .standing * 5 + 4) (getD vs 4 0)) (s .standing + 1)
-    ≡ addEdit s e
+    → withEdits s (fiveStores (s .edits) (s .standing * 5) vs) (s .standing + 1) ≡ addEdit s e
 unfolding addEdit
-with-words s e vs g = ap (λ (l : List ℕ). withEdits s l (s .standing + 1)) (five-stores e vs (s .edits) (s .standing * 5) g)
+with-words s e vs g =
+    ap (λ (l : List ℕ). withEdits s l (s .standing + 1)) (five-stores e vs (s .edits) (s .standing * 5) g)
 
 words-of-requires : tie.Need-words-of-requires
 words-of-requires c κs = search needs

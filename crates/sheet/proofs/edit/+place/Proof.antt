@@ -27,7 +27,8 @@ module _ (f : Size) (p : FocusPoint) (ws : List ℕ) where
   unfolding placed
   no-edits n e = rw e
 
-  one-more : (n : ℕ) (q r : Placed) → (n ≡ 0 → ⊥) → q ≡ placed f p ws (n - 1) → (e : Edit) → e ≡ editAt ws (n - 1) → r ≡ moved e q
+  one-more : (n : ℕ) (q r : Placed) → (n ≡ 0 → ⊥) → q ≡ placed f p ws (n - 1) → (e : Edit) → e ≡ editAt ws (n - 1)
+      → r ≡ moved e q
       → r ≡ placed f p ws n
   unfolding placed
   one-more zero q r z g e d k = absurd (z refl)

@@ -42,10 +42,14 @@ span-passes-requires-2 : tie.Need-span-passes-requires-2
 span-passes-requires-2 c κs = search needs
 
 returns-3 : tie.Need-returns-3
-returns-3 c = down _ _ _ _ _ (c .before .before .before .before .if1 .left) (c .before .before .before .if2 .left) _ (c .before .before .span-passes .ensures) (c .before .if3 .taken) _ (c .span-passes2 .ensures)
+returns-3 c =
+    down _ _ _ _ _ (c .before .before .before .before .if1 .left) (c .before .before .before .if2 .left) _
+    (c .before .before .span-passes .ensures) (c .before .if3 .taken) _ (c .span-passes2 .ensures)
 
 returns-4 : tie.Need-returns-4
-returns-4 c = across _ _ _ _ _ (c .before .before .before .if1 .left) (c .before .before .if2 .left) _ (c .before .span-passes .ensures) (c .if3 .left)
+returns-4 c =
+    across _ _ _ _ _ (c .before .before .before .if1 .left) (c .before .before .if2 .left) _
+    (c .before .span-passes .ensures) (c .if3 .left)
 
 pub cut-passes-spec : {M : Type 1} → statement M
 cut-passes-spec =

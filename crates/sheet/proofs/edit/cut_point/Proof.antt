@@ -9,8 +9,8 @@ use borrow.Author.Needs.{needs}
 use Rattle.sheet.proofs.edit.cut_point.Statement.{statement}
 use Rattle.sheet.proofs.edit.cut_point.Tie as tie
 
-cut-to : (l t w h : ℕ) (q : Placed) (b : Bool) → b ≡ staysOn l t w h (q .point) → (p : FocusPoint) → p ≡ shiftedPoint l t (q .point)
-    → _≡_ {A = Placed} (record { listed = q .listed && b; point = p; frame = size w h }) (cutPoint l t w h q)
+cut-to : (l t w h : ℕ) (q : Placed) (b : Bool) → b ≡ staysOn l t w h (q .point) → (p : FocusPoint)
+    → p ≡ shiftedPoint l t (q .point) → _≡_ {A = Placed} (record { listed = q .listed && b; point = p; frame = size w h }) (cutPoint l t w h q)
 unfolding cutPoint
 cut-to l t w h q b e p g = rw (e, g)
 

@@ -20,7 +20,8 @@ module _ (ws : List ℕ) (i : ℕ) (k : ℕ) (e : k ≡ getD ws (i * 5) 0) where
     unfolding editAt
     a-mirror b = rw (← e, ne-eqb k 0 a, eq-eqb k 1 b)
 
-    a-cut : (k ≡ 1 → ⊥) → Cut (getD ws (i * 5 + 1) 0) (getD ws (i * 5 + 2) 0) (getD ws (i * 5 + 3) 0) (getD ws (i * 5 + 4) 0) ≡ editAt ws i
+    a-cut : (k ≡ 1 → ⊥)
+        → Cut (getD ws (i * 5 + 1) 0) (getD ws (i * 5 + 2) 0) (getD ws (i * 5 + 3) 0) (getD ws (i * 5 + 4) 0) ≡ editAt ws i
     unfolding editAt
     a-cut b = rw (← e, ne-eqb k 0 a, ne-eqb k 1 b)
 
@@ -76,7 +77,9 @@ element-copy-out-height : tie.Need-element-copy-out-height
 element-copy-out-height c = search needs
 
 returns-3 : tie.Need-returns-3
-returns-3 c = a-cut _ _ _ refl (c .before .before .before .before .before .if1 .left) (c .before .before .before .before .if2 .left)
+returns-3 c =
+    a-cut _ _ _ refl (c .before .before .before .before .before .if1 .left)
+    (c .before .before .before .before .if2 .left)
 
 pub edit-at-spec : {M : Type 1} → statement M
 edit-at-spec =

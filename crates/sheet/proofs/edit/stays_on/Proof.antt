@@ -38,7 +38,9 @@ point-fits-requires : tie.Need-point-fits-requires
 point-fits-requires c κs = search needs
 
 returns-3 : tie.Need-returns-3
-returns-3 c = within _ _ _ _ _ (c .before .before .before .before .if1 .left) (c .before .before .if2 .left) _ (c .before .shifted-point .ensures) _ (c .point-fits .ensures)
+returns-3 c =
+    within _ _ _ _ _ (c .before .before .before .before .if1 .left) (c .before .before .if2 .left) _
+    (c .before .shifted-point .ensures) _ (c .point-fits .ensures)
 
 pub stays-on-spec : {M : Type 1} → statement M
 stays-on-spec =

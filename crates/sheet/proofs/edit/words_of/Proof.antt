@@ -1,5 +1,4 @@
 -- `edit::words_of`: wordsOf by cases of the edit. Assumes nothing.
-use mathlib.Core.Path.{_≡_}
 use borrow.Author.Needs.{needs}
 use Rattle.sheet.proofs.edit.words_of.Statement.{statement}
 use Rattle.sheet.proofs.edit.words_of.Tie as tie

@@ -1,5 +1,4 @@
 -- `list::in_focus_number`: inFocusNumber by cases. Assumes nothing.
-use mathlib.Core.Path.{_≡_}
 use Rattle.reading.specs.Focus.{inFocusNumber}
 use borrow.Author.Needs.{needs}
 use Rattle.sheet.proofs.list.in_focus_number.Statement.{statement}

@@ -14,7 +14,8 @@ use Rattle.sheet.proofs.list.put_point.Statement.{statement}
 use Rattle.sheet.proofs.list.put_point.Tie as tie
 
 six-stores : (l : List ℕ) (k : ℕ) (p : FocusPoint) (f : ℕ) → f ≡ inFocusNumber (p .«in_focus») →
-    set (set (set (set (set (set l k (p .number)) (k + 1) (p .center .x)) (k + 2) (p .center .y)) (k + 3) (p .size .width)) (k + 4) (p .size .height)) (k + 5) f
+    set (set (set (set (set (set l k (p .number)) (k + 1) (p .center .x)) (k + 2) (p .center .y)) (k + 3) (p .size .width))
+    (k + 4) (p .size .height)) (k + 5) f
     ≡ sets l k (six p)
 unfolding six
 six-stores l k p f e = rw (e, add-one k, add-two k, add-three k, add-four k, add-five k)
@@ -77,7 +78,9 @@ same-length : tie.Need-same-length
 same-length c = simp length-set
 
 returns : tie.Need-returns
-returns c = six-stores (c .before .before .before .before .args .out .now) (c .before .before .before .before .args .at) (c .before .before .before .before .args .point) _ (c .in-focus-number .ensures)
+returns c =
+    six-stores (c .before .before .before .before .args .out .now) (c .before .before .before .before .args .at)
+    (c .before .before .before .before .args .point) _ (c .in-focus-number .ensures)
 
 pub put-point-spec : {M : Type 1} → statement M
 put-point-spec =

@@ -29,7 +29,8 @@ module _ (old new : Size) (ps : List FocusPoint) (lp : length ps ≡ 39) where
         let p = getD ps i noPoint in
         let rest = drop (suc i) ps in
         let l : length (map f (take i ps)) ≡ i = length-map (take i ps) f ∙ length-take-le i ps (omega arith) in
-        let m : map f (take (suc i) ps) ≡ map f (take i ps) ++ f p ∷ [] = ap (map f) (take-suc ps i noPoint (omega arith)) ∙ map-append f (take i ps) (p ∷ []) in
+        let m : map f (take (suc i) ps) ≡ map f (take i ps) ++ f p ∷ [] =
+        ap (map f) (take-suc ps i noPoint (omega arith)) ∙ map-append f (take i ps) (p ∷ []) in
         rw (add-one, e, g)
         (ap (λ (r : List FocusPoint). set (map f (take i ps) ++ r) i (f p)) (drop-cons ps i noPoint (omega arith))
         ∙ set-at (map f (take i ps)) p rest (f p) i l
@@ -49,19 +50,19 @@ loop-holds : tie.Need-loop-holds Inv-loop μ-loop
 loop-holds c = (omega arith, none-scaled _ _ (c .args .t1) (search needs))
 
 mul-p : tie.Need-mul-p Inv-loop μ-loop
-mul-p c = omega (arith, (c .before .before .pre))
+mul-p c = omega (arith, c .before .before .pre)
 
 array-copy-out-p : tie.Need-array-copy-out-p Inv-loop μ-loop
-array-copy-out-p c = omega (arith, (c .before .before .pre))
+array-copy-out-p c = omega (arith, c .before .before .pre)
 
 scaled-point-requires : tie.Need-scaled-point-requires Inv-loop μ-loop
 scaled-point-requires c κs = search needs
 
 mul-scaled : tie.Need-mul-scaled Inv-loop μ-loop
-mul-scaled c = omega (arith, (c .before .before .before .before .pre))
+mul-scaled c = omega (arith, c .before .before .before .before .pre)
 
 array-set-from-scaled : tie.Need-array-set-from-scaled Inv-loop μ-loop
-array-set-from-scaled c = omega (arith, (c .before .before .before .before .pre))
+array-set-from-scaled c = omega (arith, c .before .before .before .before .pre)
 
 add-i : tie.Need-add-i Inv-loop μ-loop
 add-i c = omega arith
@@ -70,10 +71,17 @@ loop-less : tie.Need-loop-less Inv-loop μ-loop
 loop-less c = omega arith
 
 loop-again : tie.Need-loop-again Inv-loop μ-loop
-loop-again c = (omega arith, one-scaled _ _ (c .before .before .before .before .args .t1) (search needs) _ _ ((c .before .before .before .loop .inv .1)) (omega (arith, (c .before .before .before .before .pre))) _ (c .scaled-point .ensures))
+loop-again c = (
+  omega arith,
+  one-scaled _ _ (c .before .before .before .before .args .t1) (search needs) _ _
+      (c .before .before .before .loop .inv .1) (omega (arith, c .before .before .before .before .pre)) _
+      (c .scaled-point .ensures),
+)
 
 returns : tie.Need-returns Inv-loop μ-loop
-returns c = all-scaled _ _ (c .before .before .args .t1) (search needs) _ _ ((c .before .loop .inv .1)) _ ((c .before .loop .inv .0)) (c .loop-test .left)
+returns c =
+    all-scaled _ _ (c .before .before .args .t1) (search needs) _ _ (c .before .loop .inv .1) _
+    (c .before .loop .inv .0) (c .loop-test .left)
 
 pub scaled-points-spec : {M : Type 1} → statement M
 scaled-points-spec =
