@@ -1,10 +1,10 @@
-// Lines of hexadecimal.
+// Lines of hexadecimal. That the bytes are right is held to `stdout`.
 ghost use Prim.Native.Nat.{_<_, _≤_, min};
 ghost use mathlib.Core.Path.{_≡_};
 ghost use lib.ListN.{length};
 ghost use Rattle.io.specs.Counts.{Counts};
 
-// The value of a digit of either case; of another character, one that the input does not have, any.
+// The value of a digit of either case. The input has no other character.
 fn digit(c: u8) -> u8
     ensures { λ r. ⌜ r < 16 ⌝ }
 {

@@ -15,6 +15,8 @@ use reading::nikon::Crop;
 use reading::nikon::CropArea;
 use reading::nikon::FocusRecord;
 use reading::nikon::NamedPoints;
+ghost use mathlib.Core.Path.{_≡_};
+ghost use Rattle.reading.specs.Focus.{inFocusNumber, modeNumber};
 
 fn order_name(order: ByteOrder) {
     match order {
@@ -87,7 +89,9 @@ fn crop_areas(block: &[u8], order: ByteOrder) {
     crop_area(block, order, OptionalSize::Missing);
 }
 
-fn in_focus_number(in_focus: InFocus) -> u64 {
+fn in_focus_number(in_focus: InFocus) -> u64
+    ensures { λ r. ⌜ r ≡ inFocusNumber in_focus ⌝ }
+{
     match in_focus {
         InFocus::Unrecorded => 0,
         InFocus::No => 1,
@@ -95,7 +99,9 @@ fn in_focus_number(in_focus: InFocus) -> u64 {
     }
 }
 
-fn mode_number(mode: FocusAreaMode) -> u64 {
+fn mode_number(mode: FocusAreaMode) -> u64
+    ensures { λ r. ⌜ r ≡ modeNumber mode ⌝ }
+{
     match mode {
         FocusAreaMode::Unnamed => 0,
         FocusAreaMode::Single => 1,
