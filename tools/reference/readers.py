@@ -14,6 +14,8 @@ record or its number; and the contents, with all four places. The order of
 
 import sys
 
+sys.dont_write_bytecode = True
+
 import reference as ref
 
 RAW = (6016, 4016)
@@ -213,7 +215,7 @@ def cases():
     yield "MANUAL with nothing after it", text_block(b"MANUAL")
     yield "spaces at both ends", text_block(b"   MANUAL  \0")
     yield "a zero byte, then more", text_block(b"MANUAL\0AUTO")
-    yield "a space after the zero byte's place", text_block(b"MANUAL \0")
+    yield "a space before the zero byte", text_block(b"MANUAL \0")
     yield "a zero byte in front", text_block(b"\0MANUAL")
     yield "lower case", text_block(b"Manual\0")
     yield "a space inside", text_block(b"MAN UAL\0")
