@@ -160,10 +160,12 @@ def area(kind, *sides, count=4):
 
 
 def cases():
-    whole = ref.WHOLE_CASE.split(b"\n")[0].decode()
-    yield "the whole case of the specification", bytes.fromhex(whole)[29:-1]
+    line = ref.WHOLE_CASE.split(b"\n")[0].decode()
+    whole = bytes.fromhex(line)[29:-1]
+    yield "the whole case of the specification", whole
+    yield "the same, little-endian", block_of([(0xB7, 7, 30, whole[-30:])], "little")
     yield "all four values, big-endian", four_values("big")
-    yield "the same, little-endian", four_values("little")
+    yield "all four values, little-endian", four_values("little")
     yield "an empty directory, no link after it", block_of([])
     yield "an empty directory, little-endian", block_of([], "little")
 
