@@ -6,8 +6,8 @@ use Rattle.fitting.specs.Fit.{axisFits, hasZeroSide, centerLiesOn, areaFits, no
 use Rattle.fitting.specs.Examples.{samePoint}
 use Rattle.placing.specs.Points.{hasTable}
 use Rattle.placing.specs.Named.{sameSize, samePlace, givenAs, noneOr, onCrop, uncropped, placedFrame, marked, fitsWindow, isNamed, isListed, listedFrom, hasNumber, indexOf, placedIn, namedOutcome}
-use Rattle.placing.specs.Examples.{isRefused, isOnly, agrees, holds, Starred}
+use Rattle.placing.specs.Examples.{isOnly, agrees, holds, Starred}
 
 pub starred : Starred
-unfolding holds agrees isRefused isOnly samePoint inFocusNumber same hasTable axisFits hasZeroSide centerLiesOn areaFits noArea liesOn pointFits sameSize samePlace givenAs noneOr onCrop uncropped placedFrame marked fitsWindow isNamed isListed listedFrom hasNumber indexOf placedIn namedOutcome
+unfolding holds agrees isOnly samePoint inFocusNumber same hasTable axisFits hasZeroSide centerLiesOn areaFits noArea liesOn pointFits sameSize samePlace givenAs noneOr onCrop uncropped placedFrame marked fitsWindow isNamed isListed listedFrom hasNumber indexOf placedIn namedOutcome
 starred = refl

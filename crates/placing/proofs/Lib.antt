@@ -1,4 +1,6 @@
 pub mod Table
+pub mod Frames
 pub mod Listed
+pub mod Placed
 pub mod Sound
 pub mod Examples

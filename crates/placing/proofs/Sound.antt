@@ -1,31 +1,21 @@
 -- Named points that are placed keep the promise of every accepted load. The idea: each window that a picture shows has sides of 16 bits,
 -- and what is listed in a window was tested to fit it. Assumes nothing.
-use Prim.Native.Nat.{ℕ, _<_, _≤_}
+use Prim.Native.Nat.{ℕ, _≤_}
 use mathlib.Core.Path.{_≡_, refl}
 use mathlib.Core.Bool.{Bool, true, false, cond, _&&_}
-use mathlib.Core.List.{List}
 use native.Mathlib.Omega.{arith}
 use lib.Dec.{eqb}
-use lib.ListN.{length}
 use Rattle.reading.specs.Outcome.{Outcome, refused, accepted}
 use Rattle.reading.specs.declared.geometry.OptionalSize.{OptionalSize}
 use Rattle.reading.specs.declared.focus.FocusAreaMode.{FocusAreaMode}
-use Rattle.reading.specs.declared.nikon.CropHiSpeed.{CropHiSpeed}
 use Rattle.reading.specs.declared.nikon.Crop.{Crop}
-use Rattle.reading.specs.declared.nikon.Crop.the-variants.{Unrecorded, Recorded}
-use Rattle.reading.specs.declared.nikon.NamedPoints.{NamedPoints}
 use Rattle.reading.specs.declared.nikon.NamedPoints.the-variants.{Unnamed, Named}
 use Rattle.placing.specs.declared.named.Window.{Window}
-use Rattle.placing.specs.Load.{Focus}
-use Rattle.placing.specs.Points.{by, hasTable, points}
-use Rattle.placing.specs.Named.{whole, dx, medium, sameSize, samePlace, givenAs, noneOr, onCrop, uncropped, placedFrame, listed, hasNumber, focusIn, placedIn, namedOutcome, NamedSound}
-use Rattle.placing.specs.Sound.{Sound, SoundFocus}
+use Rattle.placing.specs.Points.{hasTable, points}
+use Rattle.placing.specs.Named.{placedFrame, listed, hasNumber, focusIn, placedIn, namedOutcome, NamedSound}
+use Rattle.placing.specs.Sound.{Sound}
+use Rattle.placing.proofs.Frames.{either, by-frame}
 use Rattle.placing.proofs.Listed.{present, listed-room, listed-fit}
-
--- what holds of both holds of the one that a test picks
-either : {A : Type 0} (P : A → Type 0) (b : Bool) (x y : A) → P x → P y → P (cond b x y)
-either P true x y p q = p
-either P false x y p q = q
 
 -- a window, if there is one, whose sides are 16-bit numbers
 abbrev Small : Window → Type 0
@@ -35,23 +25,9 @@ abbrev SmallIfAny : Outcome Window → Type 0
 SmallIfAny (refused n) = Unit
 SmallIfAny (accepted w) = Small w
 
-uncropped-small : (picture : OptionalSize) → Small (uncropped picture)
-unfolding uncropped
-uncropped-small picture =
-    either Small (givenAs picture (by 4512 3008)) medium whole (omega arith, omega arith) (omega arith, omega arith)
-
-crop-small : (crop : CropHiSpeed) (picture : OptionalSize) → SmallIfAny (onCrop crop picture)
-unfolding onCrop
-crop-small crop picture =
-    either SmallIfAny (eqb (crop .mode) 2 && (samePlace (crop .origin) (dx .origin) && noneOr picture (dx .frame))) (accepted dx)
-    (refused 6) (omega arith, omega arith) tt
-
 frame-small : (crop : Crop) (picture : OptionalSize) → SmallIfAny (placedFrame crop picture)
-unfolding placedFrame
-frame-small Unrecorded picture = uncropped-small picture
-frame-small (Recorded crop) picture =
-    either SmallIfAny (sameSize (crop .cropped) (crop .original)) (accepted (uncropped picture)) (onCrop crop picture)
-    (uncropped-small picture) (crop-small crop picture)
+frame-small crop picture =
+    by-frame SmallIfAny (omega arith, omega arith) (omega arith, omega arith) (omega arith, omega arith) tt crop picture
 
 module _ (primary mask : ℕ) (mode : FocusAreaMode) where
   in-window : (w : Window) → Small w → Sound (placedIn (accepted w) primary mask mode)
