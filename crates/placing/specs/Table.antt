@@ -10,13 +10,13 @@ use Rattle.reading.specs.declared.focus.FocusAreaMode.{FocusAreaMode}
 use Rattle.reading.specs.declared.nikon.Crop.{Crop}
 use Rattle.reading.specs.declared.nikon.NamedPoints.the-variants.{Named}
 use Rattle.placing.specs.declared.points.TablePoint.{TablePoint}
-use Rattle.placing.specs.Points.{by, d600, points}
-use Rattle.placing.specs.Named.{sameSize, whole, dx, medium, placedFrame, fitsWindow, namedOutcome}
+use Rattle.placing.specs.Points.{d600, points}
+use Rattle.placing.specs.Named.{whole, dx, medium, placedFrame, fitsWindow, namedOutcome}
 
 -- the row of number n: "boxes 164 square"; the point fits the whole frame and both windows
 unfoldable pub rowHolds : ℕ → TablePoint → Bool
 rowHolds n p =
-    eqb (p .number) n && (sameSize (p .size) (by 164 164) && (fitsWindow whole p && (fitsWindow dx p && fitsWindow medium p)))
+    eqb (p .number) n && (eqb (p .side) 164 && (fitsWindow whole p && (fitsWindow dx p && fitsWindow medium p)))
 
 -- rows from number n on, up to 39
 unfoldable pub rowsHold : ℕ → List TablePoint → Bool
