@@ -53,8 +53,8 @@ module _ (w : Window) (primary mask : ℕ) where
   listed-fits : (p : TablePoint) → isListed w primary mask p ≡ true → pointFits (w .frame) (lessOrigin w p) ≡ true
   unfolding isListed fitsWindow
   listed-fits p e =
-      let across = leb (w .origin .x) (p .center .x) in
-      let down = leb (w .origin .y) (p .center .y) in
+      let across = leb (w .origin .x) (p .x) in
+      let down = leb (w .origin .y) (p .y) in
       let on = pointFits (w .frame) (lessOrigin w p) in
       both down on (both across (down && on) (both (isNamed primary mask (p .number)) (across && (down && on)) e .1) .1) .1
 

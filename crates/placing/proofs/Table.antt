@@ -12,13 +12,12 @@ use borrow.Author.Tests.{eqb-true}
 use Rattle.fitting.proofs.Booleans.{both}
 use Rattle.fitting.specs.Fit.{axisFits, hasZeroSide, centerLiesOn, areaFits, noArea, liesOn, pointFits}
 use Rattle.placing.specs.declared.points.TablePoint.{TablePoint}
-use Rattle.placing.specs.Points.{by, points, noTablePoint}
-use Rattle.placing.specs.Load.{sameSize}
+use Rattle.placing.specs.Points.{points, noTablePoint}
 use Rattle.placing.specs.Named.{whole, dx, medium, fitsWindow}
 use Rattle.placing.specs.Table.{rowHolds, rowsHold, TableHolds}
 
 pub table-holds : TableHolds
-unfolding rowsHold rowHolds sameSize fitsWindow pointFits liesOn centerLiesOn areaFits noArea hasZeroSide axisFits
+unfolding rowsHold rowHolds fitsWindow pointFits liesOn centerLiesOn areaFits noArea hasZeroSide axisFits
 table-holds = refl
 
 -- the row at place i of a list whose first number is n
@@ -55,7 +54,7 @@ unfolding rowHolds
 fits-at i h =
     let p = getD points i noTablePoint in
     let windows =
-    both (sameSize (p .size) (by 164 164)) (fitsWindow whole p && (fitsWindow dx p && fitsWindow medium p))
+    both (eqb (p .side) 164) (fitsWindow whole p && (fitsWindow dx p && fitsWindow medium p))
     (both (eqb (p .number) (1 + i)) _ (row-at i h) .1) .1 in
     let cuts = both (fitsWindow whole p) (fitsWindow dx p && fitsWindow medium p) windows in
     let two = both (fitsWindow dx p) (fitsWindow medium p) (cuts .1) in
