@@ -1,2 +1,3 @@
 pub mod Journal
 pub mod Calls
+pub mod Claim
