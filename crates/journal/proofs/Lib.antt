@@ -1,1 +1,4 @@
 pub mod Carry
+pub mod Words
+pub mod Placed
+pub mod Claim
