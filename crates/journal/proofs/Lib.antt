@@ -2,3 +2,5 @@ pub mod Carry
 pub mod Words
 pub mod Placed
 pub mod Claim
+pub mod Kept
+pub mod Holds
