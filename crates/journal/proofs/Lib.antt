@@ -4,3 +4,5 @@ pub mod Placed
 pub mod Claim
 pub mod Kept
 pub mod Holds
+pub mod Answers
+pub mod Shown
