@@ -6,3 +6,5 @@ pub mod Kept
 pub mod Holds
 pub mod Answers
 pub mod Shown
+pub mod Fitted
+pub mod Refusals
