@@ -45,7 +45,7 @@ listed-before f o row more e = by (carried f o row) (rw (carried-append f o row 
     by (some p) y = refl
 
 -- turn and mirror leave a listed point listed
-abbrev isPlain : Change → Bool
+abbrev pub isPlain : Change → Bool
 isPlain (cut l t w h) = false
 isPlain turn = true
 isPlain mirror = true

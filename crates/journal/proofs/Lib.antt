@@ -8,3 +8,4 @@ pub mod Answers
 pub mod Shown
 pub mod Fitted
 pub mod Refusals
+pub mod Laws

@@ -15,12 +15,12 @@ use Rattle.reading.specs.declared.geometry.Size.{Size}
 use Rattle.reading.specs.declared.geometry.OptionalSize.{OptionalSize}
 use Rattle.fitting.specs.declared.focus.FocusPoint.{FocusPoint}
 use Rattle.fitting.specs.Fit.{hasZeroSide}
-use Rattle.fitting.proofs.Booleans.{neither}
+use Rattle.fitting.proofs.Booleans.{neither, or-first, or-second}
 use Rattle.placing.specs.Focus.{focusOf}
 use Rattle.placing.specs.Load.{Focus}
 use Rattle.journal.specs.Journal.{Change, cut, turn, mirror, Journal, empty, holds, isListed, presentFrame, listing, primaryAfter, fitted, Answer, no, ok, ended, isBadCut, cutRefusal, changeRefusal, backRefusal, journalLoad, journalChange, journalBack, head, numbers, written, journalList, journalFit}
 use Rattle.journal.specs.Calls.{Call, load, change, back, list, fit, lent, journalStep, journalAfter}
-use Rattle.journal.specs.Claim.{after, answer, newest, lastFrom, lastLoad, heldLoad, HoldsLastLoad, isLoad, EmptyBefore, Refuses, notLoaded, isEmpty, full, badCut, dropsPrimary, nothingStands, zeroBox, short, shortFit, RefusedExactly}
+use Rattle.journal.specs.Claim.{after, answer, newest, lastFrom, lastLoad, heldLoad, HoldsLastLoad, isLoad, EmptyBefore, BadCut, GoodCut, Refuses, notLoaded, isEmpty, full, badCut, dropsPrimary, nothingStands, zeroBox, short, shortFit, RefusedExactly}
 use Rattle.journal.proofs.Answers.{answers}
 use Rattle.journal.proofs.Fitted.{fitted-length}
 
@@ -90,50 +90,28 @@ no-number : (n : ℕ) → _≡_ {A = Option ℕ} none (some n) → ⊥
 no-number n e = let z : _≡_ {A = ℕ} 0 1 = cc in omega arith
 
 module _ (l t w h : ℕ) (f : Size) where
-  abbrev BadCut : Type 0
-  BadCut = (w ≡ 0) ⊎ ((h ≡ 0) ⊎ ((f .width < l + w) ⊎ (f .height < t + h)))
-
-  bad-told : isBadCut l t w h f ≡ true → BadCut
+  bad-told : isBadCut l t w h f ≡ true → BadCut l t w h f
   unfolding isBadCut
   bad-told e = by (eqb w 0) (eqb h 0) (ltb (f .width) (l + w)) (ltb (f .height) (t + h)) refl refl refl refl e
     where
       by : (a b c d : Bool) → eqb w 0 ≡ a → eqb h 0 ≡ b → ltb (f .width) (l + w) ≡ c → ltb (f .height) (t + h) ≡ d
-          → (a || (b || (c || d))) ≡ true → BadCut
+          → (a || (b || (c || d))) ≡ true → BadCut l t w h f
       by true b c d p q r s y = inl (eqb-true w 0 p)
       by false true c d p q r s y = inr (inl (eqb-true h 0 q))
       by false false true d p q r s y = inr (inr (inl (ltb-true (f .width) (l + w) r)))
       by false false false true p q r s y = inr (inr (inr (ltb-true (f .height) (t + h) s)))
       by false false false false p q r s y = absurd (false≢true y)
 
-  bad-of : BadCut → isBadCut l t w h f ≡ true
+  bad-of : BadCut l t w h f → isBadCut l t w h f ≡ true
   unfolding isBadCut
-  bad-of (inl p) = rw (eq-eqb w 0 p)
-  bad-of (inr (inl p)) = rw (eq-eqb h 0 p) (by (eqb w 0))
-    where
-      by : (a : Bool) → (a || true) ≡ true
-      by true = refl
-      by false = refl
-  bad-of (inr (inr (inl p))) = rw (lt-ltb (f .width) (l + w) p) (by (eqb w 0) (eqb h 0))
-    where
-      by : (a b : Bool) → (a || (b || true)) ≡ true
-      by true b = refl
-      by false true = refl
-      by false false = refl
-  bad-of (inr (inr (inr p))) = rw (lt-ltb (f .height) (t + h) p) (by (eqb w 0) (eqb h 0) (ltb (f .width) (l + w)))
-    where
-      by : (a b c : Bool) → (a || (b || (c || true))) ≡ true
-      by true b c = refl
-      by false true c = refl
-      by false false true = refl
-      by false false false = refl
+  bad-of (inl p) = or-first (eqb w 0) _ (eq-eqb w 0 p)
+  bad-of (inr (inl p)) = or-second (eqb w 0) _ (or-first (eqb h 0) _ (eq-eqb h 0 p))
+  bad-of (inr (inr (inl p))) =
+      or-second (eqb w 0) _ (or-second (eqb h 0) _ (or-first (ltb (f .width) (l + w)) _ (lt-ltb (f .width) (l + w) p)))
+  bad-of (inr (inr (inr p))) =
+      or-second (eqb w 0) _ (or-second (eqb h 0) _ (or-second (ltb (f .width) (l + w)) _ (lt-ltb (f .height) (t + h) p)))
 
-  record GoodCut : Type 0 where
-    wide : 0 < w
-    high : 0 < h
-    across : l + w ≤ f .width
-    down : t + h ≤ f .height
-
-  good-told : isBadCut l t w h f ≡ false → GoodCut
+  good-told : isBadCut l t w h f ≡ false → GoodCut l t w h f
   unfolding isBadCut
   good-told e =
       let a = neither (eqb w 0) _ e in
@@ -149,7 +127,7 @@ module _ (l t w h : ℕ) (f : Size) where
       positive : (n : ℕ) → (n ≡ 0 → ⊥) → 0 < n
       positive n k = omega arith
 
-  good-of : GoodCut → isBadCut l t w h f ≡ false
+  pub good-of : GoodCut l t w h f → isBadCut l t w h f ≡ false
   unfolding isBadCut
   good-of g =
       rw (
@@ -175,8 +153,7 @@ cut-refuses f row (cut l t w h) n r e =
     by true b p q y = some-number (badCut r (bad-told l t w h (presentFrame f row) p)) y
     by false true p q y = absurd (no-number n y)
     by false false p q y =
-        let g = good-told l t w h (presentFrame f row) p in
-        some-number (dropsPrimary r (g .wide) (g .high) (g .across) (g .down) (not-listed _ q)) y
+        some-number (dropsPrimary r (good-told l t w h (presentFrame f row) p) (not-listed _ q)) y
 
 change-refuses : (f : Focus) (row : List Change) (c : Change) (n : ℕ) → changeRefusal f row c ≡ some n → Refuses (holds f row) (change c) n
 unfolding changeRefusal
@@ -247,8 +224,8 @@ says (isEmpty {c = c} l) = ap (λ (a : Answer). a .outcome) (empty-seven c l)
 says (full {standing = row} h) = rw (le-leb 64 (length row) h)
 says (badCut {f = f} {standing = row} {left = l} {top = t} {width = w} {height = h} r d) =
     rw (lt-leb 64 (length row) r, bad-of l t w h (presentFrame f row) d)
-says (dropsPrimary {f = f} {standing = row} {left = l} {top = t} {width = w} {height = h} r a b c d e) =
-    rw (lt-leb 64 (length row) r, good-of l t w h (presentFrame f row) (record { wide = a; high = b; across = c; down = d }), e)
+says (dropsPrimary {f = f} {standing = row} {left = l} {top = t} {width = w} {height = h} r g e) =
+    rw (lt-leb 64 (length row) r, good-of l t w h (presentFrame f row) g, e)
 says nothingStands = refl
 says (zeroBox z) = rw z
 says (short {f = f} {standing = row} {buffer = b} l) = rw (lt-ltb (length b) (6 * length (listing f row)) l)

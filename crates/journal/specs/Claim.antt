@@ -126,6 +126,18 @@ ListedFits =
     (i : ℕ) → i < length (shown f standing) → pointFits (presentFrame f standing) (getD (shown f standing) i noPoint) ≡ true
 
 -- ---- refusals
+-- 9: a cut "has a zero side or passes the present frame"
+abbrev pub BadCut : ℕ → ℕ → ℕ → ℕ → Size → Type 0
+BadCut left top width height f =
+    (width ≡ 0) ⊎ ((height ≡ 0) ⊎ ((f .width < left + width) ⊎ (f .height < top + height)))
+
+-- and when it does neither
+pub record GoodCut (left top width height : ℕ) (f : Size) : Type 0 where
+  pub wide : 0 < width
+  pub high : 0 < height
+  pub across : left + width ≤ f .width
+  pub down : top + height ≤ f .height
+
 -- when a number is the lowest that applies to a call, from what the journal holds: "Load can give 1 to 6; cut 7 to 10; turn and
 -- mirror 7, 8; back 7, 11; list 7, 13; fit 7, 12, 13"
 pub data Refuses : Journal → Call → ℕ → Type 0 where
@@ -138,12 +150,10 @@ pub data Refuses : Journal → Call → ℕ → Type 0 where
   full : {f : Focus} {standing : List Change} {c : Change} → 64 ≤ length standing → Refuses (holds f standing) (change c) 8
   -- "cut has a zero side or passes the present frame"
   badCut : {f : Focus} {standing : List Change} {left top width height : ℕ} → length standing < 64
-    → (width ≡ 0) ⊎ ((height ≡ 0) ⊎ ((presentFrame f standing .width < left + width) ⊎ (presentFrame f standing .height < top + height)))
-    → Refuses (holds f standing) (change (cut left top width height)) 9
+    → BadCut left top width height (presentFrame f standing) → Refuses (holds f standing) (change (cut left top width height)) 9
   -- "cut would drop the primary"
   dropsPrimary : {f : Focus} {standing : List Change} {left top width height : ℕ} → length standing < 64
-    → 0 < width → 0 < height → left + width ≤ presentFrame f standing .width → top + height ≤ presentFrame f standing .height
-    → primaryAfter f (standing ++ cut left top width height ∷ []) ≡ none
+    → GoodCut left top width height (presentFrame f standing) → primaryAfter f (standing ++ cut left top width height ∷ []) ≡ none
     → Refuses (holds f standing) (change (cut left top width height)) 10
   -- "back, but no edit stands"
   nothingStands : {f : Focus} → Refuses (holds f []) back 11

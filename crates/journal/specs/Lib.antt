@@ -1,3 +1,4 @@
 pub mod Journal
 pub mod Calls
 pub mod Claim
+pub mod Laws
