@@ -128,6 +128,12 @@ whole-cut-restores g p h =
     rw (sub-zero (p .center .x), sub-zero (p .center .y), le-leb 0 (p .center .x) (omega arith), le-leb 0 (p .center .y) (omega arith), h)
 
 -- ---- turns and mirrors while fewer than 64 stand
+-- an edit that is not refused
+taken : (f : Focus) (row : List Change) (c : Change) → changeRefusal f row c ≡ none
+    → journalStep (holds f row) (change c) ≡ (ok [] [], holds f (row ++ c ∷ []))
+unfolding journalStep journalChange
+taken f row c e = rw e
+
 plain-adds : (f : Focus) (row : List Change) (c : Change) → isPlain c ≡ true → length row < 64
     → journalStep (holds f row) (change c) .1 ≡ holds f (row ++ c ∷ [])
 unfolding journalStep journalChange changeRefusal
@@ -172,3 +178,73 @@ unfolding journalStep journalChange changeRefusal
 sixty-four-stand calls f e =
     let k = after-many calls f [] turn 64 refl e (omega arith) in
     (k, λ c. answered (calls ++ replicate 64 (change turn)) (holds f (replicate 64 turn)) (change c) k)
+
+-- ---- a cut of the whole frame
+-- the present frame has no zero side: the primary, where it is now, fits it
+frame-sides : (f : Focus) (row : List Change) → Right f row → (0 < presentFrame f row .width) × (0 < presentFrame f row .height)
+frame-sides f row r =
+    by (primaryAfter f row) (carried-fits (f .frame) (some (primaryOf f)) row (fits-at (f .frame) (f .points) (f .primary) (r .sound .fit) (r .sound .primary-in))) (r .primary)
+  where
+    by : (o : Option FocusPoint) → FitsIf (presentFrame f row) o → isListed o ≡ true
+        → (0 < presentFrame f row .width) × (0 < presentFrame f row .height)
+    by none y e = absurd (false≢true e)
+    by (some q) y e = let o = fits-on-frame (presentFrame f row) q y in (o .wide, o .high)
+
+whole-taken : (f : Focus) (row : List Change) → Right f row → length row < 64
+    → changeRefusal f row (cut 0 0 (presentFrame f row .width) (presentFrame f row .height)) ≡ none
+unfolding changeRefusal
+whole-taken f row r l =
+    let g = presentFrame f row in
+    let s = frame-sides f row r in
+    let c = cut 0 0 (g .width) (g .height) in
+    let p : pointFits (f .frame) (primaryOf f) ≡ true =
+    fits-at (f .frame) (f .points) (f .primary) (r .sound .fit) (r .sound .primary-in) in
+    rw (
+      lt-leb 64 (length row) l,
+      good-of 0 0 (g .width) (g .height) g (record { wide = s .0; high = s .1; across = omega arith; down = omega arith }),
+      restored f row (c ∷ []) (whole-cut-restores g) (primaryOf f) p,
+      r .primary,
+    )
+
+pub whole-cut : WholeCut
+unfolding journalAfter frameAfter
+whole-cut calls f row e l =
+    let g = presentFrame f row in
+    let c = cut 0 0 (g .width) (g .height) in
+    let r = right calls f row e in
+    let k = taken f row c (whole-taken f row r l) in
+    let n : after (calls ++ wholeCut g ∷ []) ≡ holds f (row ++ c ∷ []) =
+    after-append empty calls (wholeCut g ∷ []) ∙ rw e (ap (λ (r : Answer × Journal). r .1) k) in
+    (
+      answered calls (holds f row) (wholeCut g) e ∙ ap (λ (r : Answer × Journal). r .0) k,
+      alike (calls ++ wholeCut g ∷ []) calls f (row ++ c ∷ []) row n e (r .sound)
+      (frame-append (f .frame) row (c ∷ []))
+      (restored f row (c ∷ []) (whole-cut-restores g)),
+    )
+
+-- ---- back
+accepted-none : (o : Option ℕ) (j k : Journal) → ended o j k .0 ≡ ok [] [] → o ≡ none
+accepted-none none j k e = refl
+accepted-none (some n) j k e =
+    let q : _≡_ {A = Outcome (List ℕ)} (refused n) (accepted []) = ap (λ (a : Answer). a .outcome) e in
+    let z : _≡_ {A = ℕ} 0 1 = cc in
+    absurd (omega arith)
+
+back-off : (f : Focus) (row : List Change) (c : Change) → journalStep (holds f (row ++ c ∷ [])) back .1 ≡ holds f row
+unfolding journalStep journalBack backRefusal
+back-off f row c =
+    let k : (length (row ++ c ∷ []) ≡ 0 → ⊥) = λ z. omega (arith, length-append row (c ∷ [])) in
+    rw (ne-eqb (length (row ++ c ∷ [])) 0 k) (ap (holds f) (but-last row c))
+
+undone : (j : Journal) (c : Change) → journalStep j (change c) .0 ≡ ok [] [] → journalAfter j (change c ∷ back ∷ []) ≡ j
+unfolding journalAfter journalStep journalChange journalBack
+undone empty c e = refl
+undone (holds f row) c e =
+    let k = accepted-none (changeRefusal f row c) (holds f row) (holds f (row ++ c ∷ [])) e in
+    ap (λ (r : Answer × Journal). journalStep (r .1) back .1) (taken f row c k) ∙ back-off f row c
+
+pub back-undoes : BackUndoes
+back-undoes calls c e d =
+    let a : after (calls ++ change c ∷ back ∷ []) ≡ after calls =
+    after-append empty calls (change c ∷ back ∷ []) ∙ undone (after calls) c (sym (answers calls (change c)) ∙ e) in
+    answered (calls ++ change c ∷ back ∷ []) (after calls) d a ∙ sym (answers calls d)
