@@ -5,11 +5,14 @@ use mathlib.Core.List.{List, [], _∷_, _++_}
 use mathlib.Core.Path.{_≡_, refl, sym, ap, _∙_}
 use lib.ListN.{getD, length}
 use lib.Seq.{getD-at}
+use Rattle.reading.specs.Outcome.{Outcome, refused, accepted}
+use Rattle.placing.specs.Focus.{focusOf}
+use Rattle.placing.specs.Load.{Focus}
 use Rattle.sheet.specs.declared.Sheet.{Sheet}
-use Rattle.sheet.specs.Sheet.{freshSheet}
-use Rattle.journal.specs.Journal.{Journal, empty, Answer, no}
-use Rattle.journal.specs.Calls.{Call, journalStep, runJournal, journalAfter, sheetStep, runSheet, sheetAfter}
-use Rattle.journal.specs.Claim.{after, answer}
+use Rattle.sheet.specs.Sheet.{freshSheet, loadSheet}
+use Rattle.journal.specs.Journal.{Journal, empty, Answer, no, journalLoad}
+use Rattle.journal.specs.Calls.{Call, load, journalStep, runJournal, journalAfter, loaded, sheetStep, runSheet, sheetAfter}
+use Rattle.journal.specs.Claim.{after, answer, LoadOnAny}
 use Rattle.journal.proofs.Claim.{claim}
 
 sheet-snoc : (s : Sheet) (cs : List Call) (c : Call) → runSheet s (cs ++ c ∷ []) ≡ runSheet s cs ++ sheetStep (sheetAfter s cs) c .0 ∷ []
@@ -52,3 +55,16 @@ pub after-append : (j : Journal) (cs ds : List Call) → journalAfter j (cs ++ d
 unfolding journalAfter
 after-append j [] ds = refl
 after-append j (c ∷ cs) ds = after-append (journalStep j c .1) cs ds
+
+-- an accepted load leaves nothing of the sheet before it
+load-same : (s t : Sheet) (o : Outcome Focus) (f : Focus) → o ≡ accepted f → loaded (loadSheet s o) ≡ loaded (loadSheet t o)
+unfolding loadSheet
+load-same s t o f e = rw e
+
+pub load-on-any : LoadOnAny
+unfolding runSheet runJournal sheetStep journalStep journalLoad
+load-on-any s block raw picture model f e calls =
+    let o = focusOf block raw picture model in
+    ap (λ (r : Answer × Sheet). r .0 ∷ runSheet (r .1) calls) (load-same s freshSheet o f e)
+    ∙ claim (load block raw picture model ∷ calls)
+    ∙ rw e

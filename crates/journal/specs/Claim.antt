@@ -177,6 +177,13 @@ RefusedKeeps =
     (s : Sheet) (c : Call) (n : ℕ) → sheetStep s c .0 .outcome ≡ refused n →
     (sheetStep s c .1 ≡ s) × (sheetStep s c .0 .buffer ≡ lent c)
 
+-- "there a load does as on any sheet": after an accepted load on any sheet, also one made by hand, all goes on as the journal says
+abbrev pub LoadOnAny : Type 0
+LoadOnAny =
+    (s : Sheet) (block : List ℕ) (raw picture : OptionalSize) (model : List ℕ) (f : Focus) →
+    focusOf block raw picture model ≡ accepted f →
+    (calls : List Call) → runSheet s (load block raw picture model ∷ calls) ≡ ok [] [] ∷ runJournal (holds f []) calls
+
 -- ---- fit
 -- what fit gives and writes, in a box without a zero side: each point of the listing scaled from the present frame
 abbrev pub FitsExactly : Type 0
