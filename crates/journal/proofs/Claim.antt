@@ -273,6 +273,7 @@ fits s h box b =
   where
     ps : List FocusPoint
     ps = fitted (loadOf s) (rowOf s) box
+
     by : (t : Bool) → listedAs (cond t answers.ZeroBox (cond (isShort s (length b)) answers.Short (answers.Listed (headIn box s))))
         (cond t b (cond (isShort s (length b)) b (flat ps ++ drop (length (flat ps)) b))) s .0
         ≡ cond t (no 12 b) (written (loadOf s) (rowOf s) box ps b)
@@ -295,7 +296,7 @@ loads s g (refused n) d =
 loads s g (accepted f) d = (
   refl,
   ap (λ (ps : List FocusPoint). holds (record { frame = f .frame; points = ps; primary = f .primary; mode = f .mode; origin = f .origin }) [])
-  (take-at (f .points) (replicate (39 - length (f .points)) noPoint) (length (f .points)) refl),
+      (take-at (f .points) (replicate (39 - length (f .points)) noPoint) (length (f .points)) refl),
   held (record {
     loaded = refl;
     counted = d .room;

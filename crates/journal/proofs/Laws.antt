@@ -214,12 +214,11 @@ whole-cut calls f row e l =
     let r = right calls f row e in
     let k = taken f row c (whole-taken f row r l) in
     let n : after (calls ++ wholeCut g ∷ []) ≡ holds f (row ++ c ∷ []) =
-    after-append empty calls (wholeCut g ∷ []) ∙ rw e (ap (λ (r : Answer × Journal). r .1) k) in
-    (
+    after-append empty calls (wholeCut g ∷ []) ∙ rw e (ap (λ (r : Answer × Journal). r .1) k) in (
       answered calls (holds f row) (wholeCut g) e ∙ ap (λ (r : Answer × Journal). r .0) k,
       alike (calls ++ wholeCut g ∷ []) calls f (row ++ c ∷ []) row n e (r .sound)
-      (frame-append (f .frame) row (c ∷ []))
-      (restored f row (c ∷ []) (whole-cut-restores g)),
+          (frame-append (f .frame) row (c ∷ []))
+          (restored f row (c ∷ []) (whole-cut-restores g)),
     )
 
 -- ---- back

@@ -143,28 +143,28 @@ pub record GoodCut (left top width height : ℕ) (f : Size) : Type 0 where
 pub data Refuses : Journal → Call → ℕ → Type 0 where
   -- 1 to 6, as demand 2 says
   notLoaded : {j : Journal} {block : List ℕ} {raw picture : OptionalSize} {model : List ℕ} {n : ℕ}
-    → focusOf block raw picture model ≡ refused n → Refuses j (load block raw picture model) n
+      → focusOf block raw picture model ≡ refused n → Refuses j (load block raw picture model) n
   -- "sheet is empty"
   isEmpty : {c : Call} → isLoad c ≡ false → Refuses empty c 7
   -- "64 edits stand"
   full : {f : Focus} {standing : List Change} {c : Change} → 64 ≤ length standing → Refuses (holds f standing) (change c) 8
   -- "cut has a zero side or passes the present frame"
   badCut : {f : Focus} {standing : List Change} {left top width height : ℕ} → length standing < 64
-    → BadCut left top width height (presentFrame f standing) → Refuses (holds f standing) (change (cut left top width height)) 9
+      → BadCut left top width height (presentFrame f standing) → Refuses (holds f standing) (change (cut left top width height)) 9
   -- "cut would drop the primary"
   dropsPrimary : {f : Focus} {standing : List Change} {left top width height : ℕ} → length standing < 64
-    → GoodCut left top width height (presentFrame f standing) → primaryAfter f (standing ++ cut left top width height ∷ []) ≡ none
-    → Refuses (holds f standing) (change (cut left top width height)) 10
+      → GoodCut left top width height (presentFrame f standing) → primaryAfter f (standing ++ cut left top width height ∷ []) ≡ none
+      → Refuses (holds f standing) (change (cut left top width height)) 10
   -- "back, but no edit stands"
   nothingStands : {f : Focus} → Refuses (holds f []) back 11
   -- "box for fitting has a zero side"
   zeroBox : {f : Focus} {standing : List Change} {box : Size} {buffer : List ℕ} → hasZeroSide box ≡ true
-    → Refuses (holds f standing) (fit box buffer) 12
+      → Refuses (holds f standing) (fit box buffer) 12
   -- "buffer shorter than 6 × count"
   short : {f : Focus} {standing : List Change} {buffer : List ℕ} → length buffer < 6 * length (listing f standing)
-    → Refuses (holds f standing) (list buffer) 13
+      → Refuses (holds f standing) (list buffer) 13
   shortFit : {f : Focus} {standing : List Change} {box : Size} {buffer : List ℕ} → hasZeroSide box ≡ false
-    → length buffer < 6 * length (listing f standing) → Refuses (holds f standing) (fit box buffer) 13
+      → length buffer < 6 * length (listing f standing) → Refuses (holds f standing) (fit box buffer) 13
 
 -- a call is refused exactly when its refusals say
 abbrev pub RefusedExactly : Type 0
