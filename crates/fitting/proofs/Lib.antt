@@ -2,4 +2,3 @@ pub mod Booleans
 pub mod Fitting
 pub mod Scaling
 pub mod Scaled
-pub mod Examples

@@ -1,4 +1,3 @@
 pub mod Fit
 pub mod Scale
 pub mod Laws
-pub mod Examples

@@ -1,7 +1,7 @@
 -- What one load comes to, and how the code lays it out: refused by a number from 1 to 6, or the frame, the points in order,
 -- the primary's index, the area mode and the origin.
 use Prim.Native.Nat.{ℕ, _-_}
-use mathlib.Core.Bool.{Bool, true, false, cond}
+use mathlib.Core.Bool.{Bool, true, false, cond, _&&_}
 use mathlib.Core.List.{List, [], _∷_, _++_}
 use lib.ListN.{length, replicate}
 use lib.Dec.{eqb}
@@ -50,6 +50,10 @@ refusalOf n =
 unfoldable pub originNumber : FocusOrigin → ℕ
 originNumber Recorded = 1
 originNumber Table = 2
+
+-- whether two sizes are equal
+unfoldable pub sameSize : Size → Size → Bool
+sameSize a b = eqb (a .width) (b .width) && eqb (a .height) (b .height)
 
 -- what stands in a place without a point
 abbrev pub noPoint : FocusPoint

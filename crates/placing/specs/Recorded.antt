@@ -14,6 +14,7 @@ use Rattle.reading.specs.declared.nikon.CropArea.the-variants.{Absent, Unusable
 use Rattle.fitting.specs.declared.focus.FocusPoint.{FocusPoint}
 use Rattle.fitting.specs.Fit.{hasZeroSide, pointFits}
 use Rattle.fitting.specs.Scale.{scaleOf, scaledPoint}
+use Rattle.placing.specs.Load.{sameSize}
 use Rattle.placing.specs.declared.recorded.Cut.{Cut}
 use Rattle.placing.specs.declared.recorded.Cut.the-variants.{Other, Both, Width, Height}
 use Rattle.placing.specs.declared.recorded.Position.{Position}
@@ -31,9 +32,6 @@ at f p = accepted (record { frame = f; point = p })
 abbrev pub positionMeans : Position → Outcome Placement
 positionMeans Unplaced = refused 5
 positionMeans (Placed f p) = at f p
-
-unfoldable pub sameSize : Size → Size → Bool
-sameSize a b = eqb (a .width) (b .width) && eqb (a .height) (b .height)
 
 -- "Cropped less on both sides"; "Less on one, equal on the other"; "Any other crop"
 unfoldable pub cutBetween : Size → Size → Cut

@@ -6,7 +6,7 @@ use reading::geometry::Point;
 use reading::geometry::Size;
 ghost use mathlib.Core.Path.{_≡_};
 ghost use lib.ListN.{replicate};
-ghost use Rattle.placing.specs.Load.{noPoint, refusedBy};
+ghost use Rattle.placing.specs.Load.{noPoint, refusedBy, sameSize};
 
 // Where points come from: the record's own position, or the table of the body's points.
 pub enum FocusOrigin {
@@ -75,4 +75,11 @@ pub fn no_points(why: Refusal) -> FocusPoints
         area_mode: FocusAreaMode::Unnamed,
         origin: FocusOrigin::Recorded,
     }
+}
+
+// Whether two sizes are equal.
+pub fn same_size(a: Size, b: Size) -> bool
+    ensures { λ r. ⌜ r ≡ sameSize a b ⌝ }
+{
+    a.width == b.width && a.height == b.height
 }

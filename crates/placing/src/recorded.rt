@@ -8,7 +8,7 @@ use reading::nikon::CropArea;
 use reading::nikon::CropHiSpeed;
 ghost use mathlib.Core.Path.{_≡_};
 ghost use Prim.Native.Nat.{_-_, _≤_};
-ghost use Rattle.placing.specs.Recorded.{cutOf, sameSize, offsetIn, shifts, movedPoint, positionMeans, scaledTo, inWindow, ontoWindow, shapedWindow, ontoPicture, onto, positionOf};
+ghost use Rattle.placing.specs.Recorded.{cutOf, offsetIn, shifts, movedPoint, positionMeans, scaledTo, inWindow, ontoWindow, shapedWindow, ontoPicture, onto, positionOf};
 
 // What a crop cut from the frame: both sides, only the width, only the height, or anything else.
 pub enum Cut {
@@ -22,13 +22,6 @@ pub enum Cut {
 pub enum Position {
     Unplaced,
     Placed { frame: Size, point: FocusPoint },
-}
-
-// Whether two sizes are equal.
-pub fn same_size(a: Size, b: Size) -> bool
-    ensures { λ r. ⌜ r ≡ sameSize a b ⌝ }
-{
-    a.width == b.width && a.height == b.height
 }
 
 // What the crop cut.
@@ -224,7 +217,7 @@ pub fn in_crop(
         Crop::Recorded(known) => {
             let cropped = known.cropped;
             let original = known.original;
-            if same_size(cropped, original) {
+            if crate::focus::same_size(cropped, original) {
                 return Position::Placed { frame, point };
             }
             onto_crop(cut_of(known), point, frame, area, picture)

@@ -11,7 +11,8 @@ use Rattle.reading.specs.declared.nikon.Crop.the-variants.{Unrecorded, Recorded
 use Rattle.reading.specs.declared.nikon.CropArea.{CropArea}
 use Rattle.fitting.specs.Fit.{pointFits}
 use Rattle.fitting.specs.declared.focus.FocusPoint.{FocusPoint}
-use Rattle.placing.specs.Recorded.{Placement, positionOf, sameSize, cutOf, onto, at}
+use Rattle.placing.specs.Recorded.{Placement, positionOf, cutOf, onto, at}
+use Rattle.placing.specs.Load.{sameSize}
 use Rattle.placing.specs.declared.recorded.Cut.{Cut}
 use borrow.Author.Needs.{needs}
 use Rattle.placing.proofs.recorded.in_crop.Statement.{statement}

@@ -1,8 +1,8 @@
--- `recorded::same_size`: the definition, side by side. Assumes nothing.
+-- `focus::same_size`: the definition, side by side. Assumes nothing.
 use borrow.Author.Tests.{eq-eqb, ne-eqb}
-use Rattle.placing.specs.Recorded.{sameSize}
-use Rattle.placing.proofs.recorded.same_size.Statement.{statement}
-use Rattle.placing.proofs.recorded.same_size.Tie as tie
+use Rattle.placing.specs.Load.{sameSize}
+use Rattle.placing.proofs.focus.same_size.Statement.{statement}
+use Rattle.placing.proofs.focus.same_size.Tie as tie
 
 returns : tie.Need-returns
 unfolding sameSize

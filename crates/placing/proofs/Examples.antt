@@ -1,0 +1,15 @@
+-- The starred examples of 01 hold: the table is computed by the definitions. Assumes nothing.
+use mathlib.Core.Path.{refl}
+use Rattle.reading.specs.Bytes.{same}
+use Rattle.reading.specs.Focus.{inFocusNumber}
+use Rattle.reading.specs.Record.{layoutAmong, layoutOf, recordOf}
+use Rattle.fitting.specs.Fit.{axisFits, hasZeroSide, centerLiesOn, areaFits, noArea, liesOn, pointFits}
+use Rattle.fitting.specs.Scale.{scaleOf, trimOf, scaledSide, scaledCenter, scaledArea, keptArea, scaledSize, scaledPoint}
+use Rattle.placing.specs.Points.{hasTable}
+use Rattle.placing.specs.Load.{sameSize}
+use Rattle.placing.specs.Named.{samePlace, givenAs, noneOr, onCrop, uncropped, placedFrame, marked, fitsWindow, isNamed, isListed, listedFrom, hasNumber, indexOf, placedIn, namedOutcome}
+use Rattle.placing.specs.Examples.{samePoint, isOnly, agrees, holds, Starred}
+
+pub starred : Starred
+unfolding holds agrees isOnly samePoint inFocusNumber same layoutAmong layoutOf recordOf hasTable axisFits hasZeroSide centerLiesOn areaFits noArea liesOn pointFits scaleOf trimOf scaledSide scaledCenter scaledArea keptArea scaledSize scaledPoint sameSize samePlace givenAs noneOr onCrop uncropped placedFrame marked fitsWindow isNamed isListed listedFrom hasNumber indexOf placedIn namedOutcome
+starred = refl

@@ -1,0 +1,38 @@
+-- `named::placed_point`: not named, not listed; named, it is for the window to say. Assumes nothing.
+use Prim.Native.Nat.{ℕ}
+use mathlib.Core.Path.{_≡_}
+use mathlib.Core.Bool.{Bool, true, false, not}
+use borrow.Author.Tests.{not-true, not-false}
+use Rattle.placing.specs.declared.points.TablePoint.{TablePoint}
+use Rattle.placing.specs.declared.named.Window.{Window}
+use Rattle.placing.specs.declared.named.Placing.{Placing}
+use Rattle.placing.specs.declared.named.Placing.the-variants.{Left}
+use Rattle.placing.specs.Named.{lessOrigin, fitsWindow, isNamed, isListed, ifListed}
+use borrow.Author.Needs.{needs}
+use Rattle.placing.proofs.named.placed_point.Statement.{statement}
+use Rattle.placing.proofs.named.placed_point.Tie as tie
+
+module _ (w : Window) (primary mask : ℕ) (p : TablePoint) (b : Bool) (eb : b ≡ isNamed primary mask (p .number)) where
+  not-named : not b ≡ true → Left ≡ ifListed (isListed w primary mask p) (lessOrigin w p)
+  unfolding isListed
+  not-named n = rw (← eb, not-true b n)
+
+  is-named : not b ≡ false → (r : Placing) → r ≡ ifListed (fitsWindow w p) (lessOrigin w p) →
+      r ≡ ifListed (isListed w primary mask p) (lessOrigin w p)
+  unfolding isListed
+  is-named n r e = rw (← eb, not-false b n) e
+
+is-named-requires : tie.Need-is-named-requires
+is-named-requires c κs = search needs
+
+returns : tie.Need-returns
+returns c = not-named (c .before .before .args .window) (c .before .before .args .primary) (c .before .before .args .mask) (c .before .before .args .point) _ (c .before .is-named .ensures) (c .if1 .taken)
+
+less-origin-requires : tie.Need-less-origin-requires
+less-origin-requires c κs = search needs
+
+returns-2 : tie.Need-returns-2
+returns-2 c = is-named (c .before .before .before .args .window) (c .before .before .before .args .primary) (c .before .before .before .args .mask) (c .before .before .before .args .point) _ (c .before .before .is-named .ensures) (c .before .if1 .left) _ (c .less-origin .ensures)
+
+pub placed-point-spec : {M : Type 1} → statement M
+placed-point-spec = tie.close (tie.spec is-named-requires returns less-origin-requires returns-2)

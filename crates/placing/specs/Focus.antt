@@ -1,0 +1,66 @@
+-- 01's definition of one load: the numbers 1 to 6 in order, or frame, points, primary, area mode and origin.
+use Prim.Native.Nat.{ℕ, min}
+use mathlib.Core.Bool.{Bool, true, false, cond, _&&_, not}
+use mathlib.Core.List.{List, [], _∷_}
+use Rattle.reading.specs.Outcome.{Outcome, refused, accepted}
+use Rattle.reading.specs.Block.{blockOf}
+use Rattle.reading.specs.Values.{manualFocusOf, cropHiSpeedOf, cropAreaOf}
+use Rattle.reading.specs.Record.{afInfo2Of}
+use Rattle.reading.specs.declared.io.ByteOrder.{ByteOrder}
+use Rattle.reading.specs.declared.geometry.Size.{Size}
+use Rattle.reading.specs.declared.geometry.OptionalSize.{OptionalSize}
+use Rattle.reading.specs.declared.focus.FocusAreaMode.{FocusAreaMode}
+use Rattle.reading.specs.declared.nikon.Crop.{Crop}
+use Rattle.reading.specs.declared.nikon.CropArea.{CropArea}
+use Rattle.reading.specs.declared.nikon.FocusRecord.{FocusRecord}
+use Rattle.fitting.specs.declared.focus.FocusPoint.{FocusPoint}
+use Rattle.fitting.specs.Fit.{hasZeroSide}
+use Rattle.placing.specs.Load.{Focus}
+use Rattle.placing.specs.Sound.{Sound}
+use Rattle.placing.specs.Recorded.{Placement, positionOf}
+use Rattle.placing.specs.Named.{namedOutcome}
+use Rattle.placing.specs.declared.focus.FocusOrigin.the-variants.{Recorded}
+
+-- an accepted value is handed on, a refusal stays
+abbrev pub andThen : {A B : Type 0} → Outcome A → (A → Outcome B) → Outcome B
+andThen (refused n) f = refused n
+andThen (accepted a) f = f a
+
+-- "The lowest number that applies is returned": one more refusal that applies if the test holds
+abbrev pub refusedToo : {A : Type 0} → ℕ → Bool → Outcome A → Outcome A
+refusedToo n false x = x
+refusedToo n true (refused m) = refused (min n m)
+refusedToo n true (accepted a) = refused n
+
+-- a recorded point: number 0, its area, and the in-focus byte, which "goes with a recorded position"
+abbrev pub pointOf : FocusRecord → FocusPoint
+pointOf r = record { number = 0; center = r .center; size = r .area; «in_focus» = r .«in_focus» }
+
+-- "Recorded position, if no side of frame or area is zero"
+unfoldable pub recordsPosition : FocusRecord → Bool
+recordsPosition r = not (hasZeroSide (r .frame)) && not (hasZeroSide (r .area))
+
+-- one point, the primary, as recorded
+abbrev pub alone : Size → FocusPoint → FocusAreaMode → Outcome Focus
+alone f p m = accepted (record { frame = f; points = p ∷ []; primary = 0; mode = m; origin = Recorded })
+
+-- "recorded position cannot be placed": 5; "no recorded position and named points cannot be placed": 6
+unfoldable pub placedOf : FocusRecord → Crop → CropArea → OptionalSize → List ℕ → Outcome Focus
+placedOf r crop area picture model =
+    cond (recordsPosition r)
+    (andThen (positionOf (pointOf r) (r .frame) crop area picture) (λ q. alone (q .frame) (q .point) (r .«area_mode»)))
+    (namedOutcome (r .named) model crop picture (r .«area_mode»))
+
+-- "FocusMode is MANUAL": 3, which comes after 2 (no record of its type) and before 4 (a record that cannot be used)
+unfoldable pub focusIn : ByteOrder → List ℕ → OptionalSize → OptionalSize → List ℕ → Outcome Focus
+focusIn o s raw picture model =
+    andThen (refusedToo 3 (manualFocusOf o s) (afInfo2Of o s))
+    (λ r. placedOf r (cropHiSpeedOf o s) (cropAreaOf o s raw) picture model)
+
+-- one load: "given block, raw and picture sizes (each may be missing) and model"
+unfoldable pub focusOf : List ℕ → OptionalSize → OptionalSize → List ℕ → Outcome Focus
+focusOf s raw picture model = andThen (blockOf s) (λ o. focusIn o s raw picture model)
+
+-- every load is sound: what the layers above rely on
+abbrev pub LoadSound : Type 0
+LoadSound = (s : List ℕ) (raw picture : OptionalSize) (model : List ℕ) → Sound (focusOf s raw picture model)

@@ -1,0 +1,127 @@
+// One load: from a lent block, the two sizes and the model to focus points.
+use crate::focus::FocusAnswer;
+use crate::focus::FocusOrigin;
+use crate::focus::FocusPoints;
+use crate::focus::Refusal;
+use crate::recorded::Position;
+use fitting::focus::FocusPoint;
+use reading::focus::FocusAreaMode;
+use reading::geometry::OptionalSize;
+use reading::geometry::Size;
+use reading::ifd::Block;
+use reading::io::ByteOrder;
+use reading::nikon::AfInfo2;
+use reading::nikon::Crop;
+use reading::nikon::CropArea;
+use reading::nikon::FocusRecord;
+ghost use mathlib.Core.Path.{_≡_};
+ghost use Rattle.placing.specs.Load.{laidOut};
+ghost use Rattle.placing.specs.Focus.{pointOf, recordsPosition, alone, placedOf, focusIn, focusOf};
+
+// The point that a record's position is.
+fn point_of(recorded: FocusRecord) -> FocusPoint
+    ensures { λ r. ⌜ r ≡ pointOf recorded ⌝ }
+{
+    let center = recorded.center;
+    let size = recorded.area;
+    let in_focus = recorded.in_focus;
+    FocusPoint {
+        number: 0,
+        center,
+        size,
+        in_focus,
+    }
+}
+
+// Whether a record has a position: no side of its frame or area is zero.
+fn records_position(recorded: FocusRecord) -> bool
+    ensures { λ r. ⌜ r ≡ recordsPosition recorded ⌝ }
+{
+    let frame = recorded.frame;
+    let area = recorded.area;
+    if fitting::focus::has_zero_side(frame) {
+        return false;
+    }
+    !fitting::focus::has_zero_side(area)
+}
+
+// One recorded point, which is the primary.
+fn alone_in(frame: Size, point: FocusPoint, mode: FocusAreaMode) -> FocusPoints
+    ensures { λ r. ⌜ r ≡ laidOut (alone frame point mode) ⌝ }
+{
+    let mut points = crate::focus::no_places();
+    points[0] = point;
+    FocusPoints {
+        answer: FocusAnswer::Placed,
+        frame,
+        points,
+        count: 1,
+        primary: 0,
+        area_mode: mode,
+        origin: FocusOrigin::Recorded,
+    }
+}
+
+// The points of a record: its position, or else the points that it names.
+fn placed_record(
+    recorded: FocusRecord,
+    crop: Crop,
+    area: CropArea,
+    picture: OptionalSize,
+    model: &[u8],
+) -> FocusPoints
+    ensures { λ r. ⌜ r ≡ laidOut (placedOf recorded crop area picture (now (model .entry))) ⌝ }
+{
+    let area_mode = recorded.area_mode;
+    if !records_position(recorded) {
+        let named = recorded.named;
+        return crate::named::placed(named, model, crop, picture, area_mode);
+    }
+    let frame = recorded.frame;
+    match crate::recorded::in_crop(point_of(recorded), frame, crop, area, picture) {
+        Position::Placed {
+            frame: place,
+            point,
+        } => alone_in(place, point, area_mode),
+        Position::Unplaced => crate::focus::no_points(Refusal::Unplaced),
+    }
+}
+
+// One load of a block that can be read.
+fn focus_in(
+    block: &[u8],
+    order: ByteOrder,
+    raw: OptionalSize,
+    picture: OptionalSize,
+    model: &[u8],
+) -> FocusPoints
+    ensures { λ r. ⌜ r ≡ laidOut (focusIn order (now (block .entry)) raw picture (now (model .entry))) ⌝ }
+{
+    match reading::nikon::af_info2(block, order) {
+        AfInfo2::Missing => crate::focus::no_points(Refusal::Missing),
+        AfInfo2::Unusable => {
+            if reading::nikon::manual_focus(block, order) {
+                return crate::focus::no_points(Refusal::Manual);
+            }
+            crate::focus::no_points(Refusal::Unusable)
+        }
+        AfInfo2::Recorded(recorded) => {
+            if reading::nikon::manual_focus(block, order) {
+                return crate::focus::no_points(Refusal::Manual);
+            }
+            let crop = reading::nikon::crop_hi_speed(block, order);
+            let area = reading::nikon::crop_area(block, order, raw);
+            placed_record(recorded, crop, area, picture, model)
+        }
+    }
+}
+
+// One load: the frame, the points in order, the primary, the area mode and the origin; or the first refusal that applies.
+pub fn focus(block: &[u8], raw: OptionalSize, picture: OptionalSize, model: &[u8]) -> FocusPoints
+    ensures { λ r. ⌜ r ≡ laidOut (focusOf (now (block .entry)) raw picture (now (model .entry))) ⌝ }
+{
+    match reading::ifd::parse_block(block) {
+        Block::Readable(order) => focus_in(block, order, raw, picture, model),
+        Block::Unreadable => crate::focus::no_points(Refusal::Unreadable),
+    }
+}
