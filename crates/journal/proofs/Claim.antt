@@ -1,15 +1,15 @@
 -- The claim. A sheet after calls stands for a journal (`journalOf`) and is `Good`: empty, or with its counts in range and its places
 -- there. Every call, on a good sheet and on the journal that it stands for, ends alike and leaves a good sheet that stands for the
 -- journal left (`Agree`). Two lemmas carry nearly all cases: `keeps`, of a refused call, and `adds`, of one edit more. Then by
--- induction over the list. Of a load it uses that what placing's definition gives is sound. Assumes nothing.
+-- induction over the list. Of a load it uses that it is sound, and refused by 1 to 6. Assumes nothing.
 use Prim.Native.Nat.{ℕ, zero, suc, _+_, _-_, _*_, _<_, _≤_}
 use mathlib.Core.Bool.{Bool, true, false, _&&_, _||_, not, cond}
 use mathlib.Core.List.{List, [], _∷_, _++_, map}
 use mathlib.Core.Option.{Option, none, some}
 use mathlib.Core.Path.{_≡_, refl, sym, ap, ap₂, _∙_}
 use lib.Dec.{leb, ltb, eqb}
-use lib.ListN.{getD, length, take, drop, replicate, length-append, length-map, length-replicate}
-use lib.Seq.{sets, length-sets, take-at, take-take, getD-take}
+use lib.ListN.{getD, length, take, drop, length-map}
+use lib.Seq.{sets, length-sets, take-take, getD-take}
 use native.Mathlib.Nat.{le-of-lt}
 use native.Mathlib.Numerals.{add-one, sub-one}
 use native.Mathlib.Omega.{arith}
@@ -35,12 +35,15 @@ use Rattle.sheet.specs.declared.Sheet.{Sheet}
 use Rattle.sheet.specs.Place.{wordsOf, moved, placed}
 use Rattle.sheet.specs.Sheet.{editNumber, loadNumber, edited as editedTo, freshSheet, loadedSheet, loadSheet, usable, placedAt, presentFrame as frameOf, withEdits, addEdit, ifOpen, turnSheet, mirrorSheet, cutPasses, keepsPrimary, cutSheet, backSheet}
 use Rattle.sheet.specs.Listing.{listNumber, headNumbers, listing as listingTo, listed as listedOf, listCount, listIndex, isShort, headIn, listAnswer, listBuffer, scaledAll, fitAnswer, fitBuffer, flat}
+use Rattle.sheet.proofs.Buffer.{flat-length}
+use Rattle.sheet.proofs.Places.{length-places, take-places}
+use Rattle.sheet.proofs.Words.{stored-last}
 use Rattle.journal.specs.Journal.{Change, cut, turn, mirror, Journal, empty, holds, frameAfter, carried, isListed, listed, presentFrame, listing, indexOf, primaryAfter, fitted, Answer, no, ok, ended, head, isBadCut, changeRefusal, backRefusal, journalLoad, journalChange, journalBack, numbers, written, journalList, journalFit}
 use Rattle.journal.specs.Calls.{Call, load, change, back, list, fit, journalStep, runJournal, journalAfter, numbered, edited, loaded, given, listed as listedAs, changed, sheetStep, runSheet, sheetAfter}
 use Rattle.journal.specs.Claim.{Claim}
 use Rattle.journal.proofs.Carry.{but-last}
-use Rattle.journal.proofs.Words.{stored-last}
-use Rattle.journal.proofs.Placed.{changeOf, pointOf, rowAt, row-count, row-kept, placed-frame, placed-more, placed-point, listing-is, flat-numbers, numbers-length}
+use Rattle.journal.proofs.Numbers.{Numbered, number, numbered-load, by-case}
+use Rattle.journal.proofs.Placed.{changeOf, pointOf, rowAt, row-count, row-kept, placed-frame, placed-more, placed-point, listing-is, flat-numbers}
 
 -- ---- the journal that a sheet stands for
 abbrev loadOf : Sheet → Focus
@@ -239,8 +242,9 @@ listed-held s h = listing-is s (s .count) (omega (arith, h .counted, h .filled))
 index-held : (s : Sheet) → Held s → listIndex s ≡ indexOf (loadOf s) (rowOf s)
 unfolding listIndex
 index-held s h =
-    rw (take-take (s .primary) (s .count) (s .points) (le-of-lt (h .primed)))
-    (ap length (listing-is s (s .primary) (omega (arith, h .primed, h .counted, h .filled))))
+    ap length (listing-is s (s .primary) (omega (arith, h .primed, h .counted, h .filled)))
+    ∙ ap (λ (ps : List FocusPoint). length (listed (s .frame) (rowOf s) ps))
+    (sym (take-take (s .primary) (s .count) (s .points) (le-of-lt (h .primed))))
 
 -- once the sheet is loaded and the box has no zero side: the points ps, as many as are listed, in the frame f
 writes : (s : Sheet) (h : Held s) (f : Size) (ps : List FocusPoint) (b : List ℕ) → length ps ≡ length (listing (loadOf s) (rowOf s))
@@ -249,7 +253,7 @@ writes : (s : Sheet) (h : Held s) (f : Size) (ps : List FocusPoint) (b : List �
     ≡ written (loadOf s) (rowOf s) f ps b
 unfolding isShort headIn listCount headNumbers written listNumber
 writes s h f ps b e =
-    rw (listed-held s h, index-held s h, flat-numbers ps, numbers-length ps, ← e)
+    rw (listed-held s h, index-held s h, flat-length ps, flat-numbers ps, ← e)
     (by (ltb (length b) (6 * length ps)))
   where
     by : (t : Bool) → _≡_ {A = Answer} (listedAs (cond t answers.Short (answers.Listed (record { frame = f; count = length ps; index = indexOf (loadOf s) (rowOf s); mode = s .«area_mode»; origin = s .origin })))
@@ -281,28 +285,24 @@ fits s h box b =
     by false = writes s h box ps b (length-map (listing (loadOf s) (rowOf s)) (λ p. scaledPoint p (presentFrame (loadOf s) (rowOf s)) box))
 
 -- ---- load
--- a refusal's number, through the case of the enum that has it: no case has 0
-some-number : (n : ℕ) → refusalNumber (refusalOf n) ≡ n → (n ≡ 0 → ⊥)
-unfolding refusalNumber refusalOf
-some-number n e z = let y : refusalNumber (refusalOf 0) ≡ 0 = rw z at e in omega arith
+-- a refusal's number, through the case of the enum that has it
+by-number : (n : ℕ) → 1 ≤ n → n ≤ 6 → numbered (refusalNumber (refusalOf n)) [] ≡ refused n
+by-number n a b = rw (by-case n a b, ne-eqb n 0 (λ z. omega arith))
 
-by-number : (n : ℕ) → refusalNumber (refusalOf n) ≡ n → numbered (refusalNumber (refusalOf n)) [] ≡ refused n
-by-number n e = rw (e, ne-eqb n 0 (some-number n e))
-
-loads : (s : Sheet) (g : Good s) (o : Outcome Focus) → Sound o → Agree (loaded (loadSheet s o)) (journalLoad (journalOf s) o)
-unfolding loadSheet loadedSheet journalLoad loadNumber places
-loads s g (refused n) d =
-    (ap (λ (o : Outcome (List ℕ)). record { outcome = o; buffer = [] }) (by-number n d), refl, g)
-loads s g (accepted f) d = (
+loads : (s : Sheet) (g : Good s) (o : Outcome Focus) → Sound o → Numbered o → Agree (loaded (loadSheet s o)) (journalLoad (journalOf s) o)
+unfolding loadSheet loadedSheet journalLoad loadNumber
+loads s g (refused n) d (number _ a b) =
+    (ap (λ (o : Outcome (List ℕ)). record { outcome = o; buffer = [] }) (by-number n a b), refl, g)
+loads s g (accepted f) d k = (
   refl,
   ap (λ (ps : List FocusPoint). holds (record { frame = f .frame; points = ps; primary = f .primary; mode = f .mode; origin = f .origin }) [])
-      (take-at (f .points) (replicate (39 - length (f .points)) noPoint) (length (f .points)) refl),
+      (take-places (f .points)),
   held (record {
     loaded = refl;
     counted = d .room;
     primed = d .primary-in;
     stands = omega arith;
-    filled = rw (length-append, length-replicate) (omega (arith, d .room));
+    filled = length-places (f .points) (d .room);
     worded = refl;
   }),
 )
@@ -314,7 +314,7 @@ AgreeAt s c = Agree (sheetStep s c) (journalStep (journalOf s) c)
 blank-step : (s : Sheet) (e : s .loaded ≡ false) (c : Call) → AgreeAt s c
 unfolding sheetStep journalStep turnSheet mirrorSheet backSheet cutSheet ifOpen listAnswer listBuffer fitAnswer fitBuffer editNumber listNumber journalChange journalBack journalList journalFit
 blank-step s e (load block raw picture model) =
-    loads s (blank e) (focusOf block raw picture model) (focus-sound block raw picture model)
+    loads s (blank e) (focusOf block raw picture model) (focus-sound block raw picture model) (numbered-load block raw picture model)
 blank-step s e (change (cut l t w h)) = rw (usable-blank s e, journal-blank s e) (refl, refl, blank e)
 blank-step s e (change turn) = rw (usable-blank s e, journal-blank s e) (refl, refl, blank e)
 blank-step s e (change mirror) = rw (usable-blank s e, journal-blank s e) (refl, refl, blank e)
@@ -325,7 +325,7 @@ blank-step s e (fit box b) = rw (usable-blank s e, journal-blank s e) (refl, ref
 held-step : (s : Sheet) (h : Held s) (c : Call) → AgreeAt s c
 unfolding sheetStep journalStep
 held-step s h (load block raw picture model) =
-    loads s (held h) (focusOf block raw picture model) (focus-sound block raw picture model)
+    loads s (held h) (focusOf block raw picture model) (focus-sound block raw picture model) (numbered-load block raw picture model)
 held-step s h (change c) = rw (journal-held s h) (changes s h c)
 held-step s h back = rw (journal-held s h) (backs s h)
 held-step s h (list b) = rw (journal-held s h) (lists s h b, refl, held h)

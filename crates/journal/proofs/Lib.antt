@@ -1,6 +1,6 @@
 pub mod Carry
-pub mod Words
 pub mod Placed
+pub mod Numbers
 pub mod Claim
 pub mod Kept
 pub mod Holds
@@ -9,3 +9,4 @@ pub mod Shown
 pub mod Fitted
 pub mod Refusals
 pub mod Laws
+pub mod Example

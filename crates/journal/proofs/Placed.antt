@@ -19,9 +19,9 @@ use Rattle.sheet.specs.declared.Sheet.{Sheet}
 use Rattle.sheet.specs.Place.{editAt, staysOn, cutPoint, moved, placed}
 use Rattle.sheet.specs.Sheet.{placedAt}
 use Rattle.sheet.specs.Listing.{ifListed as ifPlaced, listing, six, flat}
+use Rattle.sheet.proofs.Words.{stored-kept}
 use Rattle.journal.specs.Journal.{Change, cut, turn, mirror, frameBy, movedBy, frameAfter, carried, ifListed, listed, numbers}
 use Rattle.journal.proofs.Carry.{frame-snoc, carried-snoc, listed-snoc}
-use Rattle.journal.proofs.Words.{stored-kept}
 
 -- ---- one edit
 abbrev pub changeOf : Edit → Change
@@ -115,8 +115,3 @@ pub flat-numbers : (ps : List FocusPoint) → flat ps ≡ numbers ps
 unfolding flat six numbers
 flat-numbers [] = refl
 flat-numbers (p ∷ ps) = ap (λ (l : List ℕ). six p ++ l) (flat-numbers ps)
-
-pub numbers-length : (ps : List FocusPoint) → length (numbers ps) ≡ 6 * length ps
-unfolding numbers
-numbers-length [] = refl
-numbers-length (p ∷ ps) = omega (arith, numbers-length ps)

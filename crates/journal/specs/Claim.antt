@@ -1,5 +1,6 @@
 -- Demand 3, as one claim over every list of calls, and what follows from it, in demand 3's words. proofs/Claim.antt proves the
--- claim, proofs/Consequences.antt what follows.
+-- claim; what follows is proved in proofs/Answers.antt (any sheet that is loaded), Shown.antt (what is listed), Fitted.antt,
+-- Refusals.antt, Numbers.antt (1 to 6) and Kept.antt (a refused call).
 use Prim.Native.Nat.{ℕ, _+_, _*_, _≤_, _<_}
 use mathlib.Core.Bool.{Bool, true, false, _&&_, cond}
 use mathlib.Core.List.{List, [], _∷_, _++_, map}
@@ -54,6 +55,7 @@ abbrev pub heldLoad : Journal → Option Focus
 heldLoad empty = none
 heldLoad (holds f standing) = some f
 
+-- the journal holds the last accepted load
 abbrev pub HoldsLastLoad : Type 0
 HoldsLastLoad = (calls : List Call) → heldLoad (after calls) ≡ lastLoad calls
 
@@ -170,6 +172,12 @@ pub data Refuses : Journal → Call → ℕ → Type 0 where
 abbrev pub RefusedExactly : Type 0
 RefusedExactly =
     (calls : List Call) (c : Call) (n : ℕ) → (answer calls c .outcome ≡ refused n) ↔ Refuses (after calls) c n
+
+-- "Load can give 1 to 6"
+abbrev pub LoadNumbers : Type 0
+LoadNumbers =
+    (block : List ℕ) (raw picture : OptionalSize) (model : List ℕ) (n : ℕ) →
+    focusOf block raw picture model ≡ refused n → (1 ≤ n) × (n ≤ 6)
 
 -- on every sheet, also one made by hand, a refused call leaves sheet and buffer as they were
 abbrev pub RefusedKeeps : Type 0

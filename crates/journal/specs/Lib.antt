@@ -2,3 +2,4 @@ pub mod Journal
 pub mod Calls
 pub mod Claim
 pub mod Laws
+pub mod Example
