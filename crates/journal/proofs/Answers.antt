@@ -1,11 +1,11 @@
 -- What follows from the claim at once: after any list of calls the sheet answers a further call as the journal does. The claim for
 -- the list with that call at its end; the last answer of each side. Assumes nothing.
-use Prim.Native.Nat.{ℕ, suc}
+use Prim.Native.Nat.{suc}
 use mathlib.Core.List.{List, [], _∷_, _++_}
 use mathlib.Core.Path.{_≡_, refl, sym, ap, _∙_}
 use lib.ListN.{getD, length}
 use lib.Seq.{getD-at}
-use Rattle.reading.specs.Outcome.{Outcome, refused, accepted}
+use Rattle.reading.specs.Outcome.{Outcome, accepted}
 use Rattle.placing.specs.Focus.{focusOf}
 use Rattle.placing.specs.Load.{Focus}
 use Rattle.sheet.specs.declared.Sheet.{Sheet}

@@ -4,8 +4,8 @@
 -- induction over the list. Of a load it uses that it is sound, and refused by 1 to 6. Assumes nothing.
 use Prim.Native.Nat.{ℕ, zero, suc, _+_, _-_, _*_, _<_, _≤_}
 use mathlib.Core.Bool.{Bool, true, false, _&&_, _||_, not, cond}
-use mathlib.Core.List.{List, [], _∷_, _++_, map}
-use mathlib.Core.Option.{Option, none, some}
+use mathlib.Core.List.{List, [], _∷_, _++_}
+use mathlib.Core.Option.{none, some}
 use mathlib.Core.Path.{_≡_, refl, sym, ap, ap₂, _∙_}
 use lib.Dec.{leb, ltb, eqb}
 use lib.ListN.{getD, length, take, drop, length-map}
@@ -20,26 +20,24 @@ use Rattle.fitting.specs.declared.focus.FocusPoint.{FocusPoint}
 use Rattle.fitting.specs.Fit.{hasZeroSide}
 use Rattle.fitting.specs.Scale.{scaledPoint}
 use Rattle.placing.specs.Focus.{focusOf}
-use Rattle.placing.specs.Load.{Focus, noPoint, places, refusalOf, refusalNumber}
+use Rattle.placing.specs.Load.{Focus, noPoint, refusalOf, refusalNumber}
 use Rattle.placing.specs.Sound.{Sound}
 use Rattle.placing.proofs.Sound.{focus-sound}
 use Rattle.sheet.specs.declared.edit.Edit.{Edit}
 use Rattle.sheet.specs.declared.edit.Edit.the-variants.{Cut, Turn, Mirror}
 use Rattle.sheet.specs.declared.edit.Placed.{Placed}
 use Rattle.sheet.specs.declared.EditAnswer.{EditAnswer}
-use Rattle.sheet.specs.declared.EditAnswer.the-variants.{Accepted, Empty, Full, BadCut, DropsPrimary, NothingStands}
-use Rattle.sheet.specs.declared.list.ListAnswer.{ListAnswer}
+use Rattle.sheet.specs.declared.EditAnswer.the-variants.{Accepted, Full, BadCut, DropsPrimary, NothingStands}
 use Rattle.sheet.specs.declared.list.ListAnswer.the-variants as answers
-use Rattle.sheet.specs.declared.list.Listing.{Listing}
 use Rattle.sheet.specs.declared.Sheet.{Sheet}
 use Rattle.sheet.specs.Place.{wordsOf, moved, placed}
 use Rattle.sheet.specs.Sheet.{editNumber, loadNumber, edited as editedTo, freshSheet, loadedSheet, loadSheet, usable, placedAt, presentFrame as frameOf, withEdits, addEdit, ifOpen, turnSheet, mirrorSheet, cutPasses, keepsPrimary, cutSheet, backSheet}
-use Rattle.sheet.specs.Listing.{listNumber, headNumbers, listing as listingTo, listed as listedOf, listCount, listIndex, isShort, headIn, listAnswer, listBuffer, scaledAll, fitAnswer, fitBuffer, flat}
+use Rattle.sheet.specs.Listing.{listNumber, headNumbers, listed as listedOf, listCount, listIndex, isShort, headIn, listAnswer, listBuffer, scaledAll, fitAnswer, fitBuffer, flat}
 use Rattle.sheet.proofs.Buffer.{flat-length}
 use Rattle.sheet.proofs.Places.{length-places, take-places}
 use Rattle.sheet.proofs.Words.{stored-last}
-use Rattle.journal.specs.Journal.{Change, cut, turn, mirror, Journal, empty, holds, frameAfter, carried, isListed, listed, presentFrame, listing, indexOf, primaryAfter, fitted, Answer, no, ok, ended, head, isBadCut, changeRefusal, backRefusal, journalLoad, journalChange, journalBack, numbers, written, journalList, journalFit}
-use Rattle.journal.specs.Calls.{Call, load, change, back, list, fit, journalStep, runJournal, journalAfter, numbered, edited, loaded, given, listed as listedAs, changed, sheetStep, runSheet, sheetAfter}
+use Rattle.journal.specs.Journal.{Change, cut, turn, mirror, Journal, empty, holds, frameAfter, isListed, listed, presentFrame, listing, indexOf, primaryAfter, fitted, Answer, no, ok, ended, head, isBadCut, changeRefusal, backRefusal, journalLoad, journalChange, journalBack, numbers, written, journalList, journalFit}
+use Rattle.journal.specs.Calls.{Call, load, change, back, list, fit, journalStep, runJournal, numbered, edited, loaded, listed as listedAs, changed, sheetStep, runSheet}
 use Rattle.journal.specs.Claim.{Claim}
 use Rattle.journal.proofs.Carry.{but-last}
 use Rattle.journal.proofs.Numbers.{Numbered, number, numbered-load, by-case}

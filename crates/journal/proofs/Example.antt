@@ -1,6 +1,5 @@
 -- 01's whole case: the journal's answers are computed, and the claim gives the sheet's. Assumes nothing.
-use mathlib.Core.List.{List}
-use mathlib.Core.Path.{_≡_, refl, _∙_}
+use mathlib.Core.Path.{refl, _∙_}
 use Rattle.reading.specs.Bytes.{same}
 use Rattle.reading.specs.Numbers.{u16Of, u32Of, shortsOf}
 use Rattle.reading.specs.Block.{offsetOf, entryCount, directoryOf, inOrder, byMark, blockOf, sizeOf, entryOf, hasTag, firstOf, findOf}
@@ -12,7 +11,7 @@ use Rattle.placing.specs.Points.{hasTable}
 use Rattle.placing.specs.Named.{givenAs, uncropped, placedFrame, marked, fitsWindow, isNamed, isListed, listedFrom, hasNumber, indexOf, placedIn, namedOutcome}
 use Rattle.placing.specs.Focus.{recordsPosition, placedOf, focusIn, focusOf}
 use Rattle.placing.specs.Load.{originNumber}
-use Rattle.journal.specs.Journal.{empty, frameAfter, carried, listed, isBadCut, journalLoad, changeRefusal, journalChange, numbers, written, journalList}
+use Rattle.journal.specs.Journal.{frameAfter, carried, listed, isBadCut, journalLoad, changeRefusal, journalChange, numbers, written, journalList}
 use Rattle.journal.specs.Calls.{journalStep, runJournal}
 use Rattle.journal.specs.Example.{wholeCase, WholeCase}
 use Rattle.journal.proofs.Claim.{claim}

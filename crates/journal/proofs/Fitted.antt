@@ -1,21 +1,21 @@
 -- What fit gives: by the claim, and by the laws of scaling, since every listed point fits the present frame. Assumes nothing.
 use Prim.Native.Nat.{ℕ, zero, suc, _*_, _≤_, _<_}
 use mathlib.Core.List.{List, [], _∷_, map}
-use mathlib.Core.Path.{_≡_, refl, sym, ap, _∙_}
+use mathlib.Core.Path.{_≡_, refl, ap, _∙_}
 use mathlib.Core.Bool.{true}
 use lib.ListN.{getD, length, length-map}
 use native.Mathlib.Omega.{arith}
 use borrow.Author.Tests.{le-ltb}
 use Rattle.reading.specs.declared.geometry.Size.{Size}
 use Rattle.fitting.specs.declared.focus.FocusPoint.{FocusPoint}
-use Rattle.fitting.specs.Fit.{hasZeroSide, pointFits}
+use Rattle.fitting.specs.Fit.{pointFits}
 use Rattle.fitting.specs.Scale.{scaledPoint}
 use Rattle.fitting.proofs.Fitting.{fits-on-frame}
 use Rattle.fitting.proofs.Scaled.{scaled-fits, scaled-near}
 use Rattle.placing.specs.Load.{Focus, noPoint}
 use Rattle.journal.specs.Journal.{Change, holds, presentFrame, listing, fitted, written, journalFit}
 use Rattle.journal.specs.Calls.{fit, journalStep}
-use Rattle.journal.specs.Claim.{shown, FitsExactly, FittedNear, FitIsNear}
+use Rattle.journal.specs.Claim.{FitsExactly, FitIsNear}
 use Rattle.journal.proofs.Answers.{answered}
 use Rattle.journal.proofs.Holds.{right, listed-fits, fits-at}
 use Rattle.journal.proofs.Shown.{listing-is-shown}

@@ -1,12 +1,12 @@
 -- What every journal that calls leave holds: a sound load, at most 64 edits, and the primary listed. By induction over the calls: a
 -- cut that would drop the primary is refused, and a point that is listed was listed before. Then: a point that fits the load's
 -- frame fits the present one wherever it is carried. Assumes nothing.
-use Prim.Native.Nat.{ℕ, zero, suc, _+_, _-_, _<_, _≤_}
-use mathlib.Core.Bool.{Bool, true, false, _&&_, _||_, cond, false≢true}
+use Prim.Native.Nat.{ℕ, zero, suc, _-_, _<_, _≤_}
+use mathlib.Core.Bool.{Bool, true, false, cond, false≢true}
 use mathlib.Core.List.{List, [], _∷_, _++_}
 use mathlib.Core.Option.{Option, none, some}
-use mathlib.Core.Path.{_≡_, refl, sym, ap, _∙_}
-use lib.Dec.{leb, ltb, eqb}
+use mathlib.Core.Path.{_≡_, refl, ap, _∙_}
+use lib.Dec.{leb}
 use lib.ListN.{getD, length, take, drop, take-append-drop, length-append}
 use native.Mathlib.Omega.{arith}
 use borrow.Author.Tests.{leb-false}
@@ -20,7 +20,7 @@ use Rattle.placing.specs.Focus.{focusOf}
 use Rattle.placing.specs.Load.{Focus, noPoint}
 use Rattle.placing.specs.Sound.{Sound, SoundFocus, AllFit}
 use Rattle.placing.proofs.Sound.{focus-sound}
-use Rattle.journal.specs.Journal.{Change, cut, turn, mirror, Journal, empty, holds, frameBy, pointBy, staysListed, frameAfter, movedBy, carried, isListed, ifListed, listed, presentFrame, listing, primaryOf, primaryAfter, ended, isBadCut, cutRefusal, changeRefusal, backRefusal, journalLoad, journalChange, journalBack}
+use Rattle.journal.specs.Journal.{Change, cut, turn, mirror, Journal, empty, holds, frameBy, pointBy, staysListed, frameAfter, movedBy, carried, isListed, ifListed, listed, presentFrame, primaryOf, primaryAfter, ended, isBadCut, cutRefusal, changeRefusal, backRefusal, journalLoad, journalChange, journalBack}
 use Rattle.journal.specs.Calls.{Call, load, change, back, list, fit, journalStep, journalAfter}
 use Rattle.journal.specs.Claim.{after}
 use Rattle.journal.proofs.Carry.{carried-append, carried-snoc, carried-none}

@@ -1,10 +1,10 @@
 -- On every sheet, also one made by hand, a refused call leaves sheet and buffer as they were: each definition of the sheet by the
 -- cases of its tests. Assumes nothing.
-use Prim.Native.Nat.{ℕ, _+_, _-_}
+use Prim.Native.Nat.{ℕ, _-_}
 use mathlib.Core.Bool.{Bool, true, false, cond, false≢true}
-use mathlib.Core.List.{List, [], _∷_}
+use mathlib.Core.List.{List, []}
 use mathlib.Core.Logic.{_⊎_, inl, inr}
-use mathlib.Core.Path.{_≡_, refl, ap, sym, _∙_}
+use mathlib.Core.Path.{_≡_, refl}
 use lib.Dec.{ltb, eqb}
 use lib.ListN.{length}
 use Rattle.reading.specs.Outcome.{Outcome, refused, accepted}
@@ -12,8 +12,7 @@ use Rattle.reading.specs.declared.geometry.Size.{Size}
 use Rattle.fitting.specs.Fit.{hasZeroSide}
 use Rattle.placing.specs.Focus.{focusOf}
 use Rattle.placing.specs.Load.{Focus}
-use Rattle.sheet.specs.declared.edit.Edit.{Edit}
-use Rattle.sheet.specs.declared.edit.Edit.the-variants.{Cut, Turn, Mirror}
+use Rattle.sheet.specs.declared.edit.Edit.the-variants.{Cut}
 use Rattle.sheet.specs.declared.EditAnswer.the-variants.{Accepted, Empty, Full, BadCut, DropsPrimary, NothingStands}
 use Rattle.sheet.specs.declared.list.ListAnswer.the-variants as answers
 use Rattle.sheet.specs.declared.Sheet.{Sheet}

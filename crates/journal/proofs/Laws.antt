@@ -1,12 +1,11 @@
 -- The laws of specs/Laws.antt. Two rows that leave the same frame, and carry every point that fits the load's frame alike, list
 -- alike; a listed point is on the present frame, so what is subtracted twice comes back. Assumes nothing.
-use Prim.Native.Nat.{ℕ, zero, suc, _+_, _-_, _*_, _≤_, _<_}
-use mathlib.Core.Bool.{Bool, true, false, _&&_, cond, false≢true}
+use Prim.Native.Nat.{ℕ, zero, suc, _+_, _-_, _≤_, _<_}
+use mathlib.Core.Bool.{true, false≢true}
 use mathlib.Core.List.{List, [], _∷_, _++_, append-assoc, append-nil}
 use mathlib.Core.Option.{Option, none, some}
 use mathlib.Core.Path.{_≡_, refl, sym, ap, _∙_}
-use lib.Dec.{leb, ltb, eqb}
-use lib.ListN.{getD, length, take, replicate, length-append, length-replicate}
+use lib.ListN.{length, take, replicate, length-append}
 use native.Mathlib.Nat.{sub-zero}
 use native.Mathlib.Omega.{arith}
 use borrow.Author.Tests.{le-leb, lt-leb, ne-eqb}
@@ -14,13 +13,12 @@ use Rattle.reading.specs.Outcome.{Outcome, refused, accepted}
 use Rattle.reading.specs.declared.geometry.Size.{Size}
 use Rattle.fitting.specs.declared.focus.FocusPoint.{FocusPoint}
 use Rattle.fitting.specs.Fit.{pointFits}
-use Rattle.fitting.specs.Laws.{OnFrame}
 use Rattle.fitting.proofs.Fitting.{fits-on-frame}
-use Rattle.placing.specs.Load.{Focus, noPoint}
+use Rattle.placing.specs.Load.{Focus}
 use Rattle.placing.specs.Sound.{SoundFocus, AllFit}
-use Rattle.journal.specs.Journal.{Change, cut, turn, mirror, Journal, empty, holds, frameBy, pointBy, staysListed, frameAfter, movedBy, carried, isListed, ifListed, listed, presentFrame, listing, indexOf, primaryOf, primaryAfter, fitted, Answer, no, ok, ended, cutRefusal, changeRefusal, backRefusal, journalChange, journalBack, written, journalList, journalFit}
+use Rattle.journal.specs.Journal.{Change, cut, turn, mirror, Journal, empty, holds, frameAfter, movedBy, carried, isListed, ifListed, listed, presentFrame, listing, indexOf, primaryOf, primaryAfter, Answer, ok, ended, changeRefusal, backRefusal, journalChange, journalBack, written, journalList, journalFit}
 use Rattle.journal.specs.Calls.{Call, change, back, list, fit, journalStep, journalAfter}
-use Rattle.journal.specs.Claim.{after, answer, GoodCut}
+use Rattle.journal.specs.Claim.{after}
 use Rattle.journal.specs.Laws.{ListAlike, FourTurns, TwoMirrors, wholeCut, WholeCut, BackUndoes, SixtyFourStand, movedAll, EditMoves, StaysUnlisted}
 use Rattle.journal.proofs.Carry.{frame-append, carried-append, carried-snoc, carried-none, but-last}
 use Rattle.journal.proofs.Answers.{answers, answered, after-append}

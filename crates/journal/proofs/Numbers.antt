@@ -2,12 +2,11 @@
 -- from 1 to 6 comes back from the case of the enum that the code answers it by. Assumes nothing.
 use Prim.Native.Nat.{ℕ, zero, suc, _≤_, min}
 use mathlib.Core.Bool.{Bool, true, false, cond, _&&_}
-use mathlib.Core.List.{List, []}
+use mathlib.Core.List.{List}
 use mathlib.Core.Path.{_≡_, refl}
 use lib.Dec.{leb, eqb}
 use lib.ListN.{length, take}
 use native.Mathlib.Omega.{arith}
-use borrow.Author.Tests.{ne-eqb}
 use Rattle.reading.specs.Block.{blockOf, byMark, inOrder, byDirectory, directoryOf, littleMark, bigMark, findOf, typeOf, valueOf}
 use Rattle.reading.specs.Bytes.{same}
 use Rattle.reading.specs.Outcome.{Outcome, refused, accepted}
@@ -38,7 +37,7 @@ use Rattle.placing.specs.Focus.{andThen, refusedToo, pointOf, recordsPosition, 
 use Rattle.placing.specs.Load.{Focus, refusalOf, refusalNumber, sameSize}
 use Rattle.placing.specs.Named.{dx, samePlace, noneOr, onCrop, uncropped, placedFrame, listed, hasNumber, windowFocus, placedIn, namedOutcome}
 use Rattle.placing.specs.Points.{hasTable}
-use Rattle.placing.specs.Recorded.{Placement, at, scaledTo, shifts, movedPoint, inWindow, ontoWindow, ontoPicture, shapedWindow, onto, cutOf, byCrop, positionOf}
+use Rattle.placing.specs.Recorded.{at, scaledTo, shifts, movedPoint, inWindow, ontoWindow, ontoPicture, shapedWindow, onto, cutOf, byCrop, positionOf}
 use Rattle.placing.specs.declared.named.Window.{Window as Part}
 use Rattle.placing.specs.declared.recorded.Cut.{Cut}
 use Rattle.placing.specs.declared.recorded.Cut.the-variants.{Other, Both, Width, Height}

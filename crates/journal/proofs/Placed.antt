@@ -1,6 +1,6 @@
 -- The sheet's placing, by the count of edits, is the journal's carrying through the row: for one edit by cases, for n edits by
 -- induction with the laws of one edit more; then the listing, point by point. Assumes nothing.
-use Prim.Native.Nat.{ℕ, zero, suc, _+_, _*_, _<_, _≤_}
+use Prim.Native.Nat.{ℕ, zero, suc, _*_, _≤_}
 use mathlib.Core.Bool.{Bool, true, false, cond}
 use mathlib.Core.List.{List, [], _∷_, _++_}
 use mathlib.Core.Option.{Option, none, some}
@@ -8,7 +8,6 @@ use mathlib.Core.Path.{_≡_, refl, sym, ap, ap₂, _∙_}
 use lib.ListN.{getD, length, take, length-append}
 use lib.Seq.{sets, take-suc}
 use native.Mathlib.Omega.{arith}
-use Rattle.reading.specs.Focus.{inFocusNumber}
 use Rattle.reading.specs.declared.geometry.Size.{Size}
 use Rattle.fitting.specs.declared.focus.FocusPoint.{FocusPoint}
 use Rattle.placing.specs.Load.{noPoint}

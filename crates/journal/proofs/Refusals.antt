@@ -1,9 +1,9 @@
 -- A call is refused exactly when its refusals say: the journal's definitions by the cases of their tests, both ways. And what the
 -- journal holds is the last accepted load, so that before one every other call is refused by 7. Assumes nothing.
-use Prim.Native.Nat.{ℕ, suc, _+_, _-_, _*_, _≤_, _<_}
+use Prim.Native.Nat.{ℕ, suc, _+_, _*_, _<_}
 use mathlib.Core.Bool.{Bool, true, false, _||_, cond, false≢true}
 use mathlib.Core.List.{List, [], _∷_, _++_}
-use mathlib.Core.Logic.{_↔_, _⊎_, inl, inr}
+use mathlib.Core.Logic.{inl, inr}
 use mathlib.Core.Option.{Option, none, some}
 use mathlib.Core.Path.{_≡_, refl, sym, ap, subst, _∙_}
 use lib.Dec.{leb, ltb, eqb}
@@ -20,7 +20,7 @@ use Rattle.placing.specs.Focus.{focusOf}
 use Rattle.placing.specs.Load.{Focus}
 use Rattle.journal.specs.Journal.{Change, cut, turn, mirror, Journal, empty, holds, isListed, presentFrame, listing, primaryAfter, fitted, Answer, no, ok, ended, isBadCut, cutRefusal, changeRefusal, backRefusal, journalLoad, journalChange, journalBack, head, numbers, written, journalList, journalFit}
 use Rattle.journal.specs.Calls.{Call, load, change, back, list, fit, lent, journalStep, journalAfter}
-use Rattle.journal.specs.Claim.{after, answer, newest, lastFrom, lastLoad, heldLoad, HoldsLastLoad, isLoad, EmptyBefore, BadCut, GoodCut, Refuses, notLoaded, isEmpty, full, badCut, dropsPrimary, nothingStands, zeroBox, short, shortFit, RefusedExactly}
+use Rattle.journal.specs.Claim.{after, newest, lastFrom, heldLoad, HoldsLastLoad, isLoad, EmptyBefore, BadCut, GoodCut, Refuses, notLoaded, isEmpty, full, badCut, dropsPrimary, nothingStands, zeroBox, short, shortFit, RefusedExactly}
 use Rattle.journal.proofs.Answers.{answers}
 use Rattle.journal.proofs.Fitted.{fitted-length}
 

@@ -1,22 +1,20 @@
 -- What is listed, in the words of demand 3: carrying a point is a test, that it fits inside every cut, and a place; so the listing
 -- is the load's points, filtered and placed. The primary stands in it after those before it. Assumes nothing.
-use Prim.Native.Nat.{ℕ, suc, _+_, _*_, _≤_, _<_}
+use Prim.Native.Nat.{suc, _*_, _<_}
 use mathlib.Core.Bool.{Bool, true, false, _&&_, cond}
-use mathlib.Core.List.{List, [], _∷_, _++_, map, append-assoc}
-use mathlib.Core.Option.{Option, none, some}
+use mathlib.Core.List.{List, [], _∷_, _++_, map}
+use mathlib.Core.Option.{none, some}
 use mathlib.Core.Path.{_≡_, refl, sym, ap, _∙_}
-use lib.Dec.{ltb}
 use lib.ListN.{getD, length, take, drop, length-append}
 use lib.Seq.{split-at, take-append-seam, getD-append-seam}
 use native.Mathlib.Omega.{arith}
 use borrow.Author.Tests.{le-ltb}
 use Rattle.reading.specs.declared.geometry.Size.{Size}
 use Rattle.fitting.specs.declared.focus.FocusPoint.{FocusPoint}
-use Rattle.fitting.specs.Fit.{pointFits}
 use Rattle.placing.specs.Load.{Focus, noPoint}
-use Rattle.journal.specs.Journal.{Change, Journal, holds, frameBy, pointBy, staysListed, carried, isListed, ifListed, listed, presentFrame, listing, indexOf, primaryOf, primaryAfter, ok, numbers, head, written, journalList}
-use Rattle.journal.specs.Calls.{Call, list, journalStep}
-use Rattle.journal.specs.Claim.{after, answer, placeAfter, fitsEveryCut, filtered, shownOf, shown, shownBefore, ListingIsShown, ListsExactly, PrimaryListed, PrimaryIsListed, ListedFits}
+use Rattle.journal.specs.Journal.{Change, holds, frameBy, pointBy, staysListed, carried, isListed, ifListed, listed, presentFrame, listing, primaryOf, primaryAfter, written, journalList}
+use Rattle.journal.specs.Calls.{list, journalStep}
+use Rattle.journal.specs.Claim.{placeAfter, fitsEveryCut, filtered, shownOf, shown, ListingIsShown, ListsExactly, PrimaryListed, PrimaryIsListed, ListedFits}
 use Rattle.journal.proofs.Carry.{carried-none, listed-append}
 use Rattle.journal.proofs.Answers.{answered}
 use Rattle.journal.proofs.Holds.{right, listed-fits, fits-at}

@@ -18,7 +18,7 @@ use Rattle.placing.specs.Focus.{focusOf}
 use Rattle.placing.specs.Load.{Focus, noPoint}
 use Rattle.sheet.specs.declared.Sheet.{Sheet}
 use Rattle.sheet.specs.Sheet.{freshSheet}
-use Rattle.journal.specs.Journal.{Change, cut, turn, mirror, Journal, empty, holds, frameBy, pointBy, staysListed, presentFrame, listing, indexOf, primaryOf, primaryAfter, fitted, Answer, no, ok, numbers, head}
+use Rattle.journal.specs.Journal.{Change, cut, Journal, empty, holds, frameBy, pointBy, staysListed, presentFrame, listing, indexOf, primaryOf, primaryAfter, fitted, Answer, no, ok, numbers, head}
 use Rattle.journal.specs.Calls.{Call, load, change, back, list, fit, lent, runJournal, journalAfter, sheetStep, runSheet, sheetAfter}
 
 -- "Demand 3 is a single claim about a whole list of calls. .. The list starts from the fresh sheet, which is empty. .. Each call of

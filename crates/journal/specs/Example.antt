@@ -6,7 +6,7 @@ use mathlib.Core.Path.{_≡_}
 use lib.ListN.{replicate}
 use Rattle.reading.specs.declared.geometry.OptionalSize.the-variants.{Missing}
 use Rattle.sheet.specs.Sheet.{freshSheet}
-use Rattle.journal.specs.Journal.{cut, turn, Answer, ok}
+use Rattle.journal.specs.Journal.{cut, turn, ok}
 use Rattle.journal.specs.Calls.{Call, load, change, list, runSheet}
 
 -- "NIKON D600"
