@@ -1,6 +1,6 @@
 -- 01, "Book": what the calls alone say. The journal is fed each call with its arguments, except the sheet, and every answer is
--- worked out from what it holds. Of the sheet it knows nothing: the two share when a point fits and how it is scaled, and what
--- one load gives.
+-- worked out from what it holds. Of the sheet it knows nothing: the two share what one load gives, when a point fits a frame, how
+-- it is scaled, and 01's numbers for modes, origins and in-focus.
 use Prim.Native.Nat.{ℕ, _+_, _-_, _*_}
 use mathlib.Core.Bool.{Bool, true, false, _&&_, _||_, cond}
 use mathlib.Core.List.{List, [], _∷_, _++_, map}
