@@ -6,10 +6,12 @@ use fitting::focus::FocusPoint;
 use placing::focus::FocusAnswer;
 use placing::focus::FocusOrigin;
 use reading::focus::FocusAreaMode;
+use reading::geometry::OptionalSize;
 use reading::geometry::Size;
 ghost use mathlib.Core.Path.{_≡_};
 ghost use Prim.Native.Nat.{_<_, _≤_};
-ghost use Rattle.sheet.specs.Sheet.{edited, freshSheet, usable, placedAt, addEdit, ifOpen, turnSheet, mirrorSheet, cutSheet, backSheet};
+ghost use Rattle.placing.specs.Focus.{focusOf};
+ghost use Rattle.sheet.specs.Sheet.{edited, freshSheet, loadSheet, usable, placedAt, addEdit, ifOpen, turnSheet, mirrorSheet, cutSheet, backSheet};
 
 pub mod edit; // an edit, and one point under edits
 pub mod list; // the listing of the points where they are now, and in another frame
@@ -70,6 +72,48 @@ impl Sheet {
             origin: FocusOrigin::Recorded,
             edits,
             standing: 0,
+        }
+    }
+
+    // The sheet of a load: refused, the sheet stays as it is; accepted, the load takes the place of sheet and edits.
+    pub fn load(
+        self,
+        block: &[u8],
+        raw: OptionalSize,
+        picture: OptionalSize,
+        model: &[u8],
+    ) -> Loaded
+        ensures { λ r. ⌜ r ≡ loadSheet self (focusOf (now (block .entry)) raw picture (now (model .entry))) ⌝ }
+    {
+        let focus = placing::nikon::focus(block, raw, picture, model);
+        let answer = focus.answer;
+        match answer {
+            FocusAnswer::Refused(why) => Loaded {
+                answer: FocusAnswer::Refused(why),
+                sheet: self,
+            },
+            FocusAnswer::Placed => {
+                let frame = focus.frame;
+                let points = focus.points;
+                let area_mode = focus.area_mode;
+                let origin = focus.origin;
+                let edits = [0u32; 320];
+                let sheet = Sheet {
+                    loaded: true,
+                    frame,
+                    points,
+                    count: focus.count,
+                    primary: focus.primary,
+                    area_mode,
+                    origin,
+                    edits,
+                    standing: 0,
+                };
+                Loaded {
+                    answer: FocusAnswer::Placed,
+                    sheet,
+                }
+            }
         }
     }
 
