@@ -1,6 +1,6 @@
 -- What holds of a list of named points: it is no longer than the table, each of its points fits, and the index of a number that it has
 -- lies in it. The idea: induction along the list, by the test at its first point. Assumes nothing.
-use Prim.Native.Nat.{ℕ, zero, suc, _+_, _<_, _≤_}
+use Prim.Native.Nat.{ℕ, suc, _<_, _≤_}
 use mathlib.Core.Bool.{Bool, true, false, cond, _&&_, _||_, false≢true}
 use mathlib.Core.List.{List, [], _∷_}
 use mathlib.Core.Path.{_≡_, refl, ap, sym}

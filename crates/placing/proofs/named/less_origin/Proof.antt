@@ -1,6 +1,6 @@
 -- `named::less_origin`: a center before the origin is tested first, so that the differences are exact; then the point in the window.
 -- Assumes nothing.
-use Prim.Native.Nat.{ℕ, _≤_, _<_}
+use Prim.Native.Nat.{_≤_, _<_}
 use mathlib.Core.Path.{_≡_}
 use mathlib.Core.Bool.{Bool, true, false, not}
 use borrow.Author.Tests.{le-leb, lt-leb, not-true, not-false}
@@ -35,19 +35,33 @@ module _ (w : Window) (p : TablePoint) where
           rw (le-leb (w .origin .x) (p .center .x) across, le-leb (w .origin .y) (p .center .y) down, ← er, not-false r n)
 
 returns : tie.Need-returns
-returns c = before-left (c .before .before .before .before .before .before .before .args .window) (c .before .before .before .before .before .before .before .args .point) (c .if1 .taken)
+returns c =
+    let a = (c .before .before .before .before .before .before .before .args) in
+    before-left (a .window) (a .point) (c .if1 .taken)
 
 returns-2 : tie.Need-returns-2
-returns-2 c = before-top (c .before .before .before .before .before .before .before .before .before .before .args .window) (c .before .before .before .before .before .before .before .before .before .before .args .point) (c .before .before .before .if1 .left) (c .if2 .taken)
+returns-2 c =
+    let a = (c .before .before .before .before .before .before .before .before .before .before .args) in
+    before-top (a .window) (a .point) (c .before .before .before .if1 .left) (c .if2 .taken)
 
 point-fits-requires : tie.Need-point-fits-requires
 point-fits-requires c κs = search needs
 
 returns-3 : tie.Need-returns-3
-returns-3 c = not-on (c .before .before .before .before .before .before .before .before .before .before .before .before .before .before .before .before .args .window) (c .before .before .before .before .before .before .before .before .before .before .before .before .before .before .before .before .args .point) (c .before .before .before .before .before .before .before .before .before .if1 .left) (c .before .before .before .before .before .before .if2 .left) _ (c .before .point-fits .ensures) (c .if3 .taken)
+returns-3 c =
+    let a =
+    (c .before .before .before .before .before .before .before .before .before .before .before .before .before .before .before .before .args)
+    in
+    not-on (a .window) (a .point) (c .before .before .before .before .before .before .before .before .before .if1 .left)
+    (c .before .before .before .before .before .before .if2 .left) _ (c .before .point-fits .ensures) (c .if3 .taken)
 
 returns-4 : tie.Need-returns-4
-returns-4 c = on (c .before .before .before .before .before .before .before .before .before .before .before .before .before .before .before .before .args .window) (c .before .before .before .before .before .before .before .before .before .before .before .before .before .before .before .before .args .point) (c .before .before .before .before .before .before .before .before .before .if1 .left) (c .before .before .before .before .before .before .if2 .left) _ (c .before .point-fits .ensures) (c .if3 .left)
+returns-4 c =
+    let a =
+    (c .before .before .before .before .before .before .before .before .before .before .before .before .before .before .before .before .args)
+    in
+    on (a .window) (a .point) (c .before .before .before .before .before .before .before .before .before .if1 .left)
+    (c .before .before .before .before .before .before .if2 .left) _ (c .before .point-fits .ensures) (c .if3 .left)
 
 pub less-origin-spec : {M : Type 1} → statement M
 less-origin-spec = tie.close (tie.spec returns returns-2 point-fits-requires returns-3 returns-4)
