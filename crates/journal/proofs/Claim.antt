@@ -1,7 +1,7 @@
--- The claim. A sheet after calls stands for a journal (`journalOf`) and is `Good`: empty, or with its counts in range and its places
--- there. Every call, on a good sheet and on the journal that it stands for, ends alike and leaves a good sheet that stands for the
--- journal left (`Agree`). Two lemmas carry nearly all cases: `keeps`, of a refused call, and `adds`, of one edit more. Then by
--- induction over the list. Of a load it uses that it is sound, and refused by 1 to 6. Assumes nothing.
+-- The claim. A sheet after calls stands for a journal (`journalOf`) and is `Good`: empty, or with its counts in range and its
+-- places there. Every call, on a good sheet and on the journal that it stands for, ends alike and leaves a good sheet that stands
+-- for the journal left (`Agree`). Two lemmas carry nearly all cases: `keeps`, of a refused call, and `adds`, of one edit more. Then
+-- by induction over the list. Of a load it uses that it is sound, and refused by 1 to 6. Assumes nothing.
 use Prim.Native.Nat.{ℕ, zero, suc, _+_, _-_, _*_, _<_, _≤_}
 use mathlib.Core.Bool.{Bool, true, false, _&&_, _||_, not, cond}
 use mathlib.Core.List.{List, [], _∷_, _++_}

@@ -1,5 +1,5 @@
--- 01's whole case as calls: the block and the model of its first line, then a turn, a cut and a list call, with a buffer of one place
--- more than the listing needs.
+-- 01's whole case as calls: the block and the model of its first line, then a turn, a cut and a list call, with a buffer of one
+-- place more than the listing needs.
 use Prim.Native.Nat.{ℕ}
 use mathlib.Core.List.{List, [], _∷_}
 use mathlib.Core.Path.{_≡_}
@@ -13,7 +13,7 @@ use Rattle.journal.specs.Calls.{Call, load, change, list, runSheet}
 abbrev model : List ℕ
 model = 78 ∷ 73 ∷ 75 ∷ 79 ∷ 78 ∷ 32 ∷ 68 ∷ 54 ∷ 48 ∷ 48 ∷ []
 
--- a directory of one entry, 00B7, of 30 bytes: version 0100, layout code 3, primary 1, marked 1
+-- a directory of one entry, 00B7, of 30 bytes: version 0100, layout code 3, primary 1, marked 1 and 16. The cut drops 16
 abbrev block : List ℕ
 block =
     77 ∷ 77 ∷ 0 ∷ 42 ∷ 0 ∷ 0 ∷ 0 ∷ 8 ∷ 0 ∷ 1 ∷ 0 ∷ 183 ∷ 0 ∷ 7 ∷ 0 ∷ 0 ∷
