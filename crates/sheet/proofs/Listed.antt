@@ -1,0 +1,56 @@
+-- The listing, one point of the load at a time, and its row of 39 places as the loop of `listed_to` fills it. Assumes nothing.
+use Prim.Native.Nat.{ℕ, zero, suc, _+_, _<_, _≤_}
+use mathlib.Core.Bool.{Bool, true, false, cond}
+use mathlib.Core.List.{List, [], _∷_, _++_, append-nil}
+use mathlib.Core.Path.{_≡_, _∙_}
+use lib.ListN.{length, set, length-append}
+use native.Mathlib.Omega.{arith}
+use native.Mathlib.Numerals.{add-one}
+use Rattle.fitting.specs.declared.focus.FocusPoint.{FocusPoint}
+use Rattle.placing.specs.Load.{places}
+use Rattle.sheet.specs.declared.edit.Placed.{Placed}
+use Rattle.sheet.specs.declared.Sheet.{Sheet}
+use Rattle.sheet.specs.declared.list.Row.{Row}
+use Rattle.sheet.specs.Sheet.{placedAt}
+use Rattle.sheet.specs.Listing.{ifListed, listing, rowOf}
+use Rattle.sheet.proofs.Places.{set-places}
+
+one-at-most : (q : Placed) → length (ifListed q) ≤ 1
+one-at-most q = by (q .listed)
+  where
+    by : (b : Bool) → length (cond b (q .point ∷ []) []) ≤ 1
+    by true = omega arith
+    by false = omega arith
+
+pub listing-more : (s : Sheet) (i : ℕ) → listing s (i + 1) ≡ listing s i ++ ifListed (placedAt s i)
+unfolding listing
+listing-more s i = rw add-one
+
+-- no more are listed than there are
+pub listing-length : (s : Sheet) (i : ℕ) → length (listing s i) ≤ i
+unfolding listing
+listing-length s zero = omega arith
+listing-length s (suc i) =
+    rw length-append (omega (arith, listing-length s i, one-at-most (placedAt s i)))
+
+-- a row that holds the listed points among the first i
+module _ (s : Sheet) (i n : ℕ) (ps : List FocusPoint) (hi : i < 39) (en : n ≡ length (listing s i)) (ep : ps ≡ places (listing s i)) where
+  pub has-room : n ≤ i
+  has-room = omega (arith, listing-length s i)
+
+  pub one-in : (q : Placed) → q ≡ placedAt s i → q .listed ≡ true
+      → (n + 1 ≡ length (listing s (i + 1))) × (set ps n (q .point) ≡ places (listing s (i + 1)))
+  one-in q e t =
+      let b = has-room in
+      let g : listing s (i + 1) ≡ listing s i ++ q .point ∷ [] = listing-more s i ∙ rw (← e, t) in
+      rw g (rw (length-append, en), rw (ep, en) (set-places (listing s i) (q .point) (omega arith)))
+
+  pub none-in : (q : Placed) → q ≡ placedAt s i → q .listed ≡ false
+      → (n ≡ length (listing s (i + 1))) × (ps ≡ places (listing s (i + 1)))
+  none-in q e t =
+      let g : listing s (i + 1) ≡ listing s i = listing-more s i ∙ rw (← e, t) (append-nil (listing s i)) in
+      rw g (en, ep)
+
+pub row-done : (s : Sheet) (i m n : ℕ) (ps : List FocusPoint) → i ≤ m → m ≤ i → n ≡ length (listing s i) → ps ≡ places (listing s i)
+    → _≡_ {A = Row} (record { points = ps; count = n }) (rowOf (listing s m))
+row-done s i m n ps a b en ep = let e : i ≡ m = omega arith in rw (en, ep, e)

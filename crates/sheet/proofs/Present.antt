@@ -1,0 +1,53 @@
+-- What `present` ensures, taken apart: the count, the test for room, the head of an answer and the listed points. Assumes nothing.
+use Prim.Native.Nat.{ℕ, _*_, _<_, _≤_}
+use mathlib.Core.Bool.{true, false}
+use mathlib.Core.List.{List}
+use mathlib.Core.Path.{_≡_, sym, ap, ap₂, _∙_}
+use lib.Dec.{ltb}
+use lib.ListN.{length, take}
+use native.Mathlib.Omega.{arith}
+use borrow.Author.Tests.{lt-ltb, le-ltb}
+use Rattle.reading.specs.declared.geometry.Size.{Size}
+use Rattle.fitting.specs.declared.focus.FocusPoint.{FocusPoint}
+use Rattle.sheet.specs.declared.Sheet.{Sheet}
+use Rattle.sheet.specs.declared.list.Listing.{Listing}
+use Rattle.sheet.specs.declared.list.Present.{Present}
+use Rattle.sheet.specs.Sheet.{presentFrame}
+use Rattle.sheet.specs.Listing.{listed, listCount, listIndex, presentOf, isShort, headIn}
+use Rattle.sheet.proofs.Usable.{Counts}
+use Rattle.sheet.proofs.Places.{take-places}
+use Rattle.sheet.proofs.Listed.{listing-length}
+
+module _ (s : Sheet) (v : Present) (e : v ≡ presentOf s) where
+  pub count-of : v .count ≡ listCount s
+  unfolding presentOf
+  count-of = ap (λ (x : Present). x .count) e
+
+  index-of : v .index ≡ listIndex s
+  unfolding presentOf
+  index-of = ap (λ (x : Present). x .index) e
+
+  pub frame-of : v .frame ≡ presentFrame s
+  unfolding presentOf
+  frame-of = ap (λ (x : Present). x .frame) e
+
+  pub points-of : take (v .count) (v .points) ≡ listed s
+  unfolding presentOf listCount
+  points-of = ap (λ (x : Present). take (x .count) (x .points)) e ∙ take-places (listed s)
+
+  pub count-room : Counts s → v .count ≤ 39
+  unfolding listCount listed
+  count-room c = omega (arith, count-of, listing-length s (s .count))
+
+  pub short : (m : ℕ) → m < 6 * v .count → isShort s m ≡ true
+  unfolding isShort
+  short m h = ap (λ (k : ℕ). ltb m (6 * k)) (sym count-of) ∙ lt-ltb m (6 * v .count) h
+
+  pub long : (m : ℕ) → 6 * v .count ≤ m → isShort s m ≡ false
+  unfolding isShort
+  long m h = ap (λ (k : ℕ). ltb m (6 * k)) (sym count-of) ∙ le-ltb m (6 * v .count) h
+
+  pub head-of : (f : Size)
+      → _≡_ {A = Listing} (record { frame = f; count = v .count; index = v .index; mode = s .«area_mode»; origin = s .origin }) (headIn f s)
+  unfolding headIn
+  head-of f = ap₂ (λ (c i : ℕ). record { frame = f; count = c; index = i; mode = s .«area_mode»; origin = s .origin }) count-of index-of

@@ -1,0 +1,90 @@
+-- `Sheet::cut`: the shared refusals, then the tests of cutSheet on the primary's place, in the code's order. Assumes nothing.
+use mathlib.Core.Path.{_≡_, ap, _∙_}
+use mathlib.Core.Bool.{Bool, true, false, not}
+use Prim.Native.Nat.{ℕ, _<_}
+use native.Mathlib.Omega.{arith}
+use borrow.Author.Tests.{not-true, not-false}
+use Rattle.reading.specs.declared.geometry.Size.{Size}
+use Rattle.sheet.specs.declared.edit.Edit.{Edit}
+use Rattle.sheet.specs.declared.edit.Edit.the-variants.{Cut}
+use Rattle.sheet.specs.declared.edit.Placed.{Placed}
+use Rattle.sheet.specs.declared.EditAnswer.the-variants.{Accepted, BadCut, DropsPrimary}
+use Rattle.sheet.specs.declared.Sheet.{Sheet}
+use Rattle.sheet.specs.Place.{moved}
+use Rattle.sheet.specs.Sheet.{edited, usable, placedAt, presentFrame, addEdit, ifOpen, cutPasses, keepsPrimary, cutSheet}
+use Rattle.sheet.proofs.Usable.{Counts, counts, when-empty, when-full, when-open}
+use borrow.Author.Needs.{needs}
+use Rattle.sheet.proofs.Sheet.cut.Statement.{statement}
+use Rattle.sheet.proofs.Sheet.cut.Tie as tie
+
+module _ (s : Sheet) (q : Placed) (e : q ≡ placedAt s (s .primary)) where
+  frame-of : q .frame ≡ presentFrame s
+  unfolding presentFrame
+  frame-of = ap (λ (x : Placed). x .frame) e
+
+  listed-by : (d : Edit) (u : Placed) → u ≡ moved d q → u .listed ≡ keepsPrimary s d
+  unfolding keepsPrimary
+  listed-by d u g = ap (λ (x : Placed). x .listed) (g ∙ ap (moved d) e)
+
+module _ (s : Sheet) (l t w h : ℕ) (r : Bool) (e : r ≡ usable s) (n : not r ≡ false) (a : s .standing < 64)
+    (f : Size) (ef : f ≡ presentFrame s) (p : Bool) (ep : p ≡ cutPasses l t w h f) where
+  passes-frame : not p ≡ true → edited BadCut s ≡ cutSheet s l t w h
+  unfolding cutSheet
+  passes-frame m = rw (← ef, ← ep, not-true p m) (when-open s r e (edited BadCut s) n a)
+
+  module _ (m : not p ≡ false) (k : Bool) (ek : k ≡ keepsPrimary s (Cut l t w h)) where
+    drops : not k ≡ true → edited DropsPrimary s ≡ cutSheet s l t w h
+    unfolding cutSheet
+    drops d = rw (← ef, ← ep, not-false p m, ← ek, not-true k d) (when-open s r e (edited DropsPrimary s) n a)
+
+    done : not k ≡ false → (z : Sheet) → z ≡ addEdit s (Cut l t w h) → edited Accepted z ≡ cutSheet s l t w h
+    unfolding cutSheet
+    done d z ez =
+        rw (← ef, ← ep, not-false p m, ← ek, not-false k d, ← ez) (when-open s r e (edited Accepted z) n a)
+
+is-usable-requires : tie.Need-is-usable-requires
+is-usable-requires c κs = search needs
+
+returns : tie.Need-returns
+unfolding cutSheet
+returns c = when-empty _ _ (c .before .is-usable .ensures) _ (c .if1 .taken)
+
+returns-2 : tie.Need-returns-2
+unfolding cutSheet
+returns-2 c = when-full _ _ (c .before .before .before .is-usable .ensures) _ (c .before .before .if1 .left) (c .if2 .taken)
+
+place-at-requires : tie.Need-place-at-requires
+place-at-requires c κs = let u = counts _ _ (c .before .before .before .is-usable .ensures) (c .before .before .if1 .left) in omega arith
+
+cut-passes-requires : tie.Need-cut-passes-requires
+cut-passes-requires c κs = search needs
+
+returns-3 : tie.Need-returns-3
+returns-3 c = passes-frame _ _ _ _ _ _ (c .before .before .before .before .before .before .before .is-usable .ensures) (c .before .before .before .before .before .before .if1 .left) (c .before .before .before .before .if2 .left) _ (frame-of _ _ (c .before .before .before .place-at .ensures)) _ (c .before .cut-passes .ensures) (c .if3 .taken)
+
+move-by-requires : tie.Need-move-by-requires
+move-by-requires c κs = search needs
+
+returns-4 : tie.Need-returns-4
+returns-4 c = drops _ _ _ _ _ _ (c .before .before .before .before .before .before .before .before .before .before .is-usable .ensures) (c .before .before .before .before .before .before .before .before .before .if1 .left) (c .before .before .before .before .before .before .before .if2 .left) _ (frame-of _ _ (c .before .before .before .before .before .before .place-at .ensures)) _ (c .before .before .before .before .cut-passes .ensures) (c .before .before .before .if3 .left) _ (listed-by _ _ (c .before .before .before .before .before .before .place-at .ensures) _ _ (c .before .before .move-by .ensures)) (c .if4 .taken)
+
+with-edit-requires : tie.Need-with-edit-requires
+with-edit-requires c κs = search needs
+
+returns-5 : tie.Need-returns-5
+returns-5 c = done _ _ _ _ _ _ (c .before .before .before .before .before .before .before .before .before .before .before .is-usable .ensures) (c .before .before .before .before .before .before .before .before .before .before .if1 .left) (c .before .before .before .before .before .before .before .before .if2 .left) _ (frame-of _ _ (c .before .before .before .before .before .before .before .place-at .ensures)) _ (c .before .before .before .before .before .cut-passes .ensures) (c .before .before .before .before .if3 .left) _ (listed-by _ _ (c .before .before .before .before .before .before .before .place-at .ensures) _ _ (c .before .before .before .move-by .ensures)) (c .before .if4 .left) _ (c .with-edit .ensures)
+
+pub cut-spec : {M : Type 1} → statement M
+cut-spec =
+    tie.close
+    (tie.spec
+    is-usable-requires
+    returns
+    returns-2
+    place-at-requires
+    cut-passes-requires
+    returns-3
+    move-by-requires
+    returns-4
+    with-edit-requires
+    returns-5)

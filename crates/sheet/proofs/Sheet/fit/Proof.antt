@@ -1,0 +1,114 @@
+-- `Sheet::fit`: the tests of fitAnswer and fitBuffer, in the code's order. Assumes nothing.
+use mathlib.Core.Path.{_≡_, refl, sym, ap, _∙_}
+use mathlib.Core.Bool.{Bool, true, false, not}
+use mathlib.Core.List.{List, _++_}
+use Prim.Native.Nat.{ℕ, _*_, _<_, _≤_}
+use native.Mathlib.Omega.{arith}
+use lib.ListN.{length, take, drop, length-map}
+use lib.Seq.{take-at}
+use borrow.Author.Tests.{not-true, not-false}
+use Rattle.reading.specs.declared.geometry.Size.{Size}
+use Rattle.fitting.specs.declared.focus.FocusPoint.{FocusPoint}
+use Rattle.fitting.specs.Fit.{hasZeroSide}
+use Rattle.sheet.specs.declared.Sheet.{Sheet}
+use Rattle.sheet.specs.declared.list.ListAnswer.the-variants.{Empty, ZeroBox, Short, Listed}
+use Rattle.sheet.specs.declared.list.Present.{Present}
+use Rattle.sheet.specs.Sheet.{usable, presentFrame}
+use Rattle.sheet.specs.Listing.{flat, over, listed, listCount, presentOf, scaledAll, headIn, fitAnswer, fitBuffer}
+use Rattle.sheet.proofs.Usable.{Counts, counts}
+use Rattle.sheet.proofs.Present.{count-of, count-room, frame-of, points-of, short, long, head-of}
+use borrow.Author.Needs.{needs}
+use Rattle.sheet.proofs.Sheet.fit.Statement.{statement}
+use Rattle.sheet.proofs.Sheet.fit.Tie as tie
+
+scaled-length : (old new : Size) (ps : List FocusPoint) → length (scaledAll old new ps) ≡ length ps
+unfolding scaledAll
+scaled-length old new ps = length-map ps _
+
+-- the first points of those that `scaled_points` gives
+scaled-listed : (s : Sheet) (box : Size) (v : Present) → v ≡ presentOf s → (qs : List FocusPoint)
+    → qs ≡ scaledAll (v .frame) box (take (v .count) (v .points)) ++ drop (v .count) (v .points)
+    → take (v .count) qs ≡ scaledAll (presentFrame s) box (listed s)
+unfolding listCount
+scaled-listed s box v ev qs g =
+    ap (take (v .count)) g
+    ∙ take-at (scaledAll (v .frame) box (take (v .count) (v .points))) (drop (v .count) (v .points)) (v .count)
+    (scaled-length (v .frame) box (take (v .count) (v .points)) ∙ ap length (points-of s v ev) ∙ sym (count-of s v ev))
+    ∙ ap (scaledAll (v .frame) box) (points-of s v ev)
+    ∙ ap (λ (f : Size). scaledAll f box (listed s)) (frame-of s v ev)
+
+module _ (s : Sheet) (box : Size) (r : Bool) (e : r ≡ usable s) (b : List ℕ) where
+  empty : not r ≡ true → (Empty ≡ fitAnswer s box (length b)) × (b ≡ fitBuffer s box b)
+  unfolding fitAnswer fitBuffer
+  empty n = rw (← e, not-true r n) (refl, refl)
+
+  module _ (n : not r ≡ false) (z : Bool) (ez : z ≡ hasZeroSide box) where
+    zero-box : z ≡ true → (ZeroBox ≡ fitAnswer s box (length b)) × (b ≡ fitBuffer s box b)
+    unfolding fitAnswer fitBuffer
+    zero-box t = rw (← e, not-false r n, ← ez, t) (refl, refl)
+
+    module _ (t : z ≡ false) (v : Present) (ev : v ≡ presentOf s) where
+      no-room : length b < 6 * v .count → (Short ≡ fitAnswer s box (length b)) × (b ≡ fitBuffer s box b)
+      unfolding fitAnswer fitBuffer
+      no-room a = rw (← e, not-false r n, ← ez, t, short s v ev (length b) a) (refl, refl)
+
+      all-listed : 6 * v .count ≤ length b → (qs : List FocusPoint)
+          → qs ≡ scaledAll (v .frame) box (take (v .count) (v .points)) ++ drop (v .count) (v .points)
+          → (out : List ℕ) → out ≡ over (flat (take (v .count) qs)) b
+          → (Listed (record { frame = box; count = v .count; index = v .index; mode = s .«area_mode»; origin = s .origin }) ≡ fitAnswer s box (length b))
+          × (out ≡ fitBuffer s box b)
+      unfolding fitAnswer fitBuffer
+      all-listed a qs g out eo =
+          rw (← e, not-false r n, ← ez, t, long s v ev (length b) a) (
+            ap Listed (head-of s v ev box),
+            eo ∙ ap (λ (ps : List FocusPoint). over (flat ps) b) (scaled-listed s box v ev qs g),
+          )
+
+is-usable-requires : tie.Need-is-usable-requires
+is-usable-requires c κs = search needs
+
+returns : tie.Need-returns
+returns c = empty _ _ _ (c .before .is-usable .ensures) _ (c .if1 .taken)
+
+has-zero-side-requires : tie.Need-has-zero-side-requires
+has-zero-side-requires c κs = search needs
+
+returns-2 : tie.Need-returns-2
+returns-2 c = zero-box _ _ _ (c .before .before .before .is-usable .ensures) _ (c .before .before .if1 .left) _ (c .before .has-zero-side .ensures) (c .if2 .taken)
+
+present-requires : tie.Need-present-requires
+present-requires c κs = let u = counts _ _ (c .before .before .before .is-usable .ensures) (c .before .before .if1 .left) in (u .points, u .primary, u .edits)
+
+mul-if3 : tie.Need-mul-if3
+mul-if3 c = omega (arith, count-room _ _ (c .present .ensures) (counts _ _ (c .before .before .before .before .is-usable .ensures) (c .before .before .before .if1 .left)))
+
+returns-3 : tie.Need-returns-3
+returns-3 c = no-room _ _ _ (c .before .before .before .before .before .is-usable .ensures) _ (c .before .before .before .before .if1 .left) _ (c .before .before .before .has-zero-side .ensures) (c .before .before .if2 .left) _ (c .before .present .ensures) (c .if3 .taken)
+
+scaled-points-requires : tie.Need-scaled-points-requires
+scaled-points-requires c κs = count-room _ _ (c .before .before .before .present .ensures) (counts _ _ (c .before .before .before .before .before .before .before .is-usable .ensures) (c .before .before .before .before .before .before .if1 .left))
+
+write-points-requires : tie.Need-write-points-requires
+write-points-requires c κs = (count-room _ _ (c .before .before .before .before .before .present .ensures) (counts _ _ (c .before .before .before .before .before .before .before .before .before .is-usable .ensures) (c .before .before .before .before .before .before .before .before .if1 .left)), (c .before .before .before .before .if3 .left))
+
+same-length : tie.Need-same-length
+same-length c = search needs
+
+returns-4 : tie.Need-returns-4
+returns-4 c = all-listed _ _ _ (c .before .before .before .before .before .before .before .before .before .before .before .before .is-usable .ensures) _ (c .before .before .before .before .before .before .before .before .before .before .before .if1 .left) _ (c .before .before .before .before .before .before .before .before .before .before .has-zero-side .ensures) (c .before .before .before .before .before .before .before .before .before .if2 .left) _ (c .before .before .before .before .before .before .before .before .present .ensures) (c .before .before .before .before .before .before .before .if3 .left) _ (c .before .before .before .before .scaled-points .ensures) _ (c .before .before .write-points .ensures)
+
+pub fit-spec : {M : Type 1} → statement M
+fit-spec =
+    tie.close
+    (tie.spec
+    is-usable-requires
+    returns
+    has-zero-side-requires
+    returns-2
+    present-requires
+    mul-if3
+    returns-3
+    scaled-points-requires
+    write-points-requires
+    same-length
+    returns-4)

@@ -1,0 +1,147 @@
+-- 01, "Sheet": what load, cut, turn, mirror and back answer and leave, for every sheet.
+use Prim.Native.Nat.{ℕ, _+_, _-_, _*_}
+use mathlib.Core.Bool.{Bool, true, false, _&&_, not, cond}
+use mathlib.Core.List.{List}
+use lib.Dec.{leb, ltb, eqb}
+use lib.ListN.{getD, length, replicate}
+use lib.Seq.{sets}
+use Rattle.reading.specs.Outcome.{Outcome, refused, accepted}
+use Rattle.reading.specs.declared.geometry.Size.{Size}
+use Rattle.reading.specs.declared.focus.FocusAreaMode.the-variants.{Unnamed}
+use Rattle.placing.specs.declared.focus.FocusOrigin.the-variants.{Recorded}
+use Rattle.placing.specs.declared.focus.FocusAnswer.{FocusAnswer}
+use Rattle.placing.specs.declared.focus.FocusAnswer.the-variants as load
+use Rattle.placing.specs.Load.{Focus, noPoint, places, refusalOf, refusalNumber}
+use Rattle.sheet.specs.declared.edit.Edit.{Edit}
+use Rattle.sheet.specs.declared.edit.Edit.the-variants.{Turn, Mirror, Cut}
+use Rattle.sheet.specs.declared.edit.Placed.{Placed}
+use Rattle.sheet.specs.declared.Sheet.{Sheet}
+use Rattle.sheet.specs.declared.EditAnswer.{EditAnswer}
+use Rattle.sheet.specs.declared.EditAnswer.the-variants.{Accepted, Empty, Full, BadCut, DropsPrimary, NothingStands}
+use Rattle.sheet.specs.declared.Edited.{Edited}
+use Rattle.sheet.specs.declared.Loaded.{Loaded}
+use Rattle.sheet.specs.Place.{size, wordsOf, moved, placed}
+
+-- 01's number for each way in which an edit or back ends, 0 for accepted
+unfoldable pub editNumber : EditAnswer → ℕ
+editNumber Accepted = 0
+editNumber Empty = 7
+editNumber Full = 8
+editNumber BadCut = 9
+editNumber DropsPrimary = 10
+editNumber NothingStands = 11
+
+-- 01's number for each way in which a load ends, 0 for accepted
+unfoldable pub loadNumber : FocusAnswer → ℕ
+loadNumber load.Placed = 0
+loadNumber (load.Refused why) = refusalNumber why
+
+abbrev pub edited : EditAnswer → Sheet → Edited
+edited a s = record { answer = a; sheet = s }
+
+abbrev pub loaded : FocusAnswer → Sheet → Loaded
+loaded a s = record { answer = a; sheet = s }
+
+-- "the fresh sheet, which is empty"
+unfoldable pub freshSheet : Sheet
+freshSheet =
+    record {
+      loaded = false;
+      frame = size 0 0;
+      points = replicate 39 noPoint;
+      count = 0;
+      primary = 0;
+      «area_mode» = Unnamed;
+      origin = Recorded;
+      edits = replicate 320 0;
+      standing = 0;
+    }
+
+-- a load's sheet: its "frame, points in order, primary, area mode and origin .., and no edits"
+unfoldable pub loadedSheet : Focus → Sheet
+loadedSheet f =
+    record {
+      loaded = true;
+      frame = f .frame;
+      points = places (f .points);
+      count = length (f .points);
+      primary = f .primary;
+      «area_mode» = f .mode;
+      origin = f .origin;
+      edits = replicate 320 0;
+      standing = 0;
+    }
+
+-- "accepted, it replaces sheet and edits"; refused, "sheet kept"
+unfoldable pub loadSheet : Sheet → Outcome Focus → Loaded
+loadSheet s (refused n) = loaded (load.Refused (refusalOf n)) s
+loadSheet s (accepted f) = loaded load.Placed (loadedSheet f)
+
+-- a sheet that every call but load takes for a loaded one. Any other is empty to them: a fresh one, and one made by hand
+-- whose counts pass its places or whose primary is no point
+unfoldable pub usable : Sheet → Bool
+usable s =
+    s .loaded && (leb (s .count) 39 && (ltb (s .primary) (s .count) && leb (s .standing) 64))
+
+-- a point of the load, where the standing edits carry it
+unfoldable pub placedAt : Sheet → ℕ → Placed
+placedAt s i = placed (s .frame) (getD (s .points) i noPoint) (s .edits) (s .standing)
+
+-- "The present frame is the load's, changed by each standing edit in order": the one that the primary is in
+unfoldable pub presentFrame : Sheet → Size
+presentFrame s = placedAt s (s .primary) .frame
+
+-- a sheet with other edits
+abbrev pub withEdits : Sheet → List ℕ → ℕ → Sheet
+withEdits s ws n =
+    record {
+      loaded = s .loaded;
+      frame = s .frame;
+      points = s .points;
+      count = s .count;
+      primary = s .primary;
+      «area_mode» = s .«area_mode»;
+      origin = s .origin;
+      edits = ws;
+      standing = n;
+    }
+
+-- "An accepted cut, turn or mirror joins the row's end"
+unfoldable pub addEdit : Sheet → Edit → Sheet
+addEdit s e = withEdits s (sets (s .edits) (s .standing * 5) (wordsOf e)) (s .standing + 1)
+
+-- what cut, turn and mirror test first: 7 "sheet is empty", 8 "64 edits stand"
+unfoldable pub ifOpen : Sheet → Edited → Edited
+ifOpen s r = cond (usable s) (cond (ltb (s .standing) 64) r (edited Full s)) (edited Empty s)
+
+unfoldable pub turnSheet : Sheet → Edited
+turnSheet s = ifOpen s (edited Accepted (addEdit s Turn))
+
+unfoldable pub mirrorSheet : Sheet → Edited
+mirrorSheet s = ifOpen s (edited Accepted (addEdit s Mirror))
+
+-- a cut that does not have "a zero side" nor "passes the present frame": the sums are exact
+unfoldable pub cutPasses : ℕ → ℕ → ℕ → ℕ → Size → Bool
+cutPasses l t w h f =
+    not (eqb w 0) && (not (eqb h 0) && (leb (l + w) (f .width) && leb (t + h) (f .height)))
+
+-- 10, "cut would drop the primary": whether the primary is listed after one more edit
+unfoldable pub keepsPrimary : Sheet → Edit → Bool
+keepsPrimary s e = moved e (placedAt s (s .primary)) .listed
+
+unfoldable pub cutSheet : Sheet → ℕ → ℕ → ℕ → ℕ → Edited
+cutSheet s l t w h =
+    ifOpen s
+    (cond (cutPasses l t w h (presentFrame s))
+    (cond (keepsPrimary s (Cut l t w h))
+    (edited Accepted (addEdit s (Cut l t w h)))
+    (edited DropsPrimary s))
+    (edited BadCut s))
+
+-- "Back removes the last edit": 7 "sheet is empty", 11 "no edit stands"
+unfoldable pub backSheet : Sheet → Edited
+backSheet s =
+    cond (usable s)
+    (cond (eqb (s .standing) 0) (edited NothingStands s)
+    (edited Accepted (withEdits s (s .edits) (s .standing - 1))))
+    (edited Empty s)

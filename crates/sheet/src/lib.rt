@@ -1,0 +1,272 @@
+// The sheet: the points of one load, under edits that stand until they are taken back. Every method takes the sheet by value
+// and gives back what it leaves; it asks nothing of its caller, and a refused call changes nothing.
+use edit::Edit;
+use edit::Placed;
+use fitting::focus::FocusPoint;
+use placing::focus::FocusAnswer;
+use placing::focus::FocusOrigin;
+use reading::focus::FocusAreaMode;
+use reading::geometry::OptionalSize;
+use reading::geometry::Size;
+ghost use mathlib.Core.Path.{_≡_};
+ghost use Prim.Native.Nat.{_<_, _≤_};
+ghost use Rattle.placing.specs.Focus.{focusOf};
+ghost use Rattle.sheet.specs.Sheet.{edited, freshSheet, loadSheet, usable, placedAt, addEdit, ifOpen, turnSheet, mirrorSheet, cutSheet, backSheet};
+
+pub mod edit; // an edit, and one point under edits
+pub mod list; // the listing of the points where they are now, and in another frame
+
+// The frame, points, primary, area mode and origin of a load, and the edits that stand, in their order. The first `count` of 39
+// places hold a point each, the first `standing` of 64 groups of five words an edit each. Nothing is loaded in a new sheet.
+pub struct Sheet {
+    pub loaded: bool,
+    pub frame: Size,
+    pub points: [FocusPoint; 39],
+    pub count: usize,
+    pub primary: usize,
+    pub area_mode: FocusAreaMode,
+    pub origin: FocusOrigin,
+    pub edits: [u32; 320],
+    pub standing: usize,
+}
+
+// How cut, turn, mirror and back end: 01's numbers 0 and 7 to 11, in this order.
+pub enum EditAnswer {
+    Accepted,
+    Empty,
+    Full,
+    BadCut,
+    DropsPrimary,
+    NothingStands,
+}
+
+// A sheet after cut, turn, mirror or back.
+pub struct Edited {
+    pub answer: EditAnswer,
+    pub sheet: Sheet,
+}
+
+// A sheet after load.
+pub struct Loaded {
+    pub answer: FocusAnswer,
+    pub sheet: Sheet,
+}
+
+impl Sheet {
+    // A sheet with nothing loaded.
+    pub fn new() -> Sheet
+        ensures { λ r. ⌜ r ≡ freshSheet ⌝ }
+    {
+        let points = placing::focus::no_places();
+        let edits = [0u32; 320];
+        Sheet {
+            loaded: false,
+            frame: Size {
+                width: 0,
+                height: 0,
+            },
+            points,
+            count: 0,
+            primary: 0,
+            area_mode: FocusAreaMode::Unnamed,
+            origin: FocusOrigin::Recorded,
+            edits,
+            standing: 0,
+        }
+    }
+
+    // The sheet of a load: refused, the sheet stays as it is; accepted, the load takes the place of sheet and edits.
+    pub fn load(
+        self,
+        block: &[u8],
+        raw: OptionalSize,
+        picture: OptionalSize,
+        model: &[u8],
+    ) -> Loaded
+        ensures { λ r. ⌜ r ≡ loadSheet self (focusOf (now (block .entry)) raw picture (now (model .entry))) ⌝ }
+    {
+        let focus = placing::nikon::focus(block, raw, picture, model);
+        let answer = focus.answer;
+        match answer {
+            FocusAnswer::Refused(why) => Loaded {
+                answer: FocusAnswer::Refused(why),
+                sheet: self,
+            },
+            FocusAnswer::Placed => {
+                let frame = focus.frame;
+                let points = focus.points;
+                let area_mode = focus.area_mode;
+                let origin = focus.origin;
+                let edits = [0u32; 320];
+                let sheet = Sheet {
+                    loaded: true,
+                    frame,
+                    points,
+                    count: focus.count,
+                    primary: focus.primary,
+                    area_mode,
+                    origin,
+                    edits,
+                    standing: 0,
+                };
+                Loaded {
+                    answer: FocusAnswer::Placed,
+                    sheet,
+                }
+            }
+        }
+    }
+
+    // Whether the sheet is loaded, its counts lie within its places, and its primary is one of its points.
+    fn is_usable(self) -> bool
+        ensures { λ r. ⌜ r ≡ usable self ⌝ }
+    {
+        if !self.loaded {
+            return false;
+        }
+        if 39 < self.count {
+            return false;
+        }
+        if self.count <= self.primary {
+            return false;
+        }
+        self.standing <= 64
+    }
+
+    // The point at an index, where the standing edits carry it.
+    fn place_at(self, i: usize) -> Placed
+        requires { ⌜ (i < 39) × (self .standing ≤ 64) ⌝ }
+        ensures { λ r. ⌜ r ≡ placedAt self i ⌝ }
+    {
+        let frame = self.frame;
+        let point = self.points[i];
+        let words = self.edits;
+        let n = self.standing;
+        edit::place(frame, point, &words, n)
+    }
+
+    // The sheet with one more edit.
+    fn with_edit(self, edit: Edit) -> Sheet
+        requires { ⌜ self .standing < 64 ⌝ }
+        ensures { λ r. ⌜ r ≡ addEdit self edit ⌝ }
+    {
+        let words = edit::words_of(edit);
+        let n = self.standing;
+        let at = n * 5;
+        let mut next = self;
+        next.edits[at] = words[0];
+        next.edits[at + 1] = words[1];
+        next.edits[at + 2] = words[2];
+        next.edits[at + 3] = words[3];
+        next.edits[at + 4] = words[4];
+        next.standing = n + 1;
+        next
+    }
+
+    // One more edit, where the sheet is not empty and has room for it.
+    fn add(self, edit: Edit) -> Edited
+        ensures { λ r. ⌜ r ≡ ifOpen self (edited EditAnswer.Accepted (addEdit self edit)) ⌝ }
+    {
+        if !self.is_usable() {
+            return Edited {
+                answer: EditAnswer::Empty,
+                sheet: self,
+            };
+        }
+        if 64 <= self.standing {
+            return Edited {
+                answer: EditAnswer::Full,
+                sheet: self,
+            };
+        }
+        let sheet = self.with_edit(edit);
+        Edited {
+            answer: EditAnswer::Accepted,
+            sheet,
+        }
+    }
+
+    // The sheet turned clockwise, by a quarter rotation.
+    pub fn turn(self) -> Edited
+        ensures { λ r. ⌜ r ≡ turnSheet self ⌝ }
+    {
+        self.add(Edit::Turn)
+    }
+
+    // The sheet with left and right exchanged.
+    pub fn mirror(self) -> Edited
+        ensures { λ r. ⌜ r ≡ mirrorSheet self ⌝ }
+    {
+        self.add(Edit::Mirror)
+    }
+
+    // The sheet cut to a rectangle of the present frame.
+    pub fn cut(self, left: u32, top: u32, width: u32, height: u32) -> Edited
+        ensures { λ r. ⌜ r ≡ cutSheet self left top width height ⌝ }
+    {
+        if !self.is_usable() {
+            return Edited {
+                answer: EditAnswer::Empty,
+                sheet: self,
+            };
+        }
+        if 64 <= self.standing {
+            return Edited {
+                answer: EditAnswer::Full,
+                sheet: self,
+            };
+        }
+        let primary = self.primary;
+        let place = self.place_at(primary);
+        let frame = place.frame;
+        if !edit::cut_passes(left, top, width, height, frame) {
+            return Edited {
+                answer: EditAnswer::BadCut,
+                sheet: self,
+            };
+        }
+        let edit = Edit::Cut {
+            left,
+            top,
+            width,
+            height,
+        };
+        let after = edit::move_by(edit, place);
+        if !after.listed {
+            return Edited {
+                answer: EditAnswer::DropsPrimary,
+                sheet: self,
+            };
+        }
+        let sheet = self.with_edit(edit);
+        Edited {
+            answer: EditAnswer::Accepted,
+            sheet,
+        }
+    }
+
+    // The sheet without its last edit. The words of that edit stay behind the standing ones and are read no more.
+    pub fn back(self) -> Edited
+        ensures { λ r. ⌜ r ≡ backSheet self ⌝ }
+    {
+        if !self.is_usable() {
+            return Edited {
+                answer: EditAnswer::Empty,
+                sheet: self,
+            };
+        }
+        let n = self.standing;
+        if n == 0 {
+            return Edited {
+                answer: EditAnswer::NothingStands,
+                sheet: self,
+            };
+        }
+        let mut sheet = self;
+        sheet.standing = n - 1;
+        Edited {
+            answer: EditAnswer::Accepted,
+            sheet,
+        }
+    }
+}
