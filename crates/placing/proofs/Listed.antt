@@ -1,6 +1,6 @@
 -- What holds of a list of named points: it is no longer than the table, each of its points fits, and the index of a number that it has
 -- lies in it. The idea: induction along the list, by the test at its first point. Assumes nothing.
-use Prim.Native.Nat.{ℕ, zero, suc, _+_, _<_, _≤_}
+use Prim.Native.Nat.{ℕ, suc, _<_, _≤_}
 use mathlib.Core.Bool.{Bool, true, false, cond, _&&_, _||_, false≢true}
 use mathlib.Core.List.{List, [], _∷_}
 use mathlib.Core.Path.{_≡_, refl, ap, sym}
@@ -53,8 +53,8 @@ module _ (w : Window) (primary mask : ℕ) where
   listed-fits : (p : TablePoint) → isListed w primary mask p ≡ true → pointFits (w .frame) (lessOrigin w p) ≡ true
   unfolding isListed fitsWindow
   listed-fits p e =
-      let across = leb (w .origin .x) (p .center .x) in
-      let down = leb (w .origin .y) (p .center .y) in
+      let across = leb (w .origin .x) (p .x) in
+      let down = leb (w .origin .y) (p .y) in
       let on = pointFits (w .frame) (lessOrigin w p) in
       both down on (both across (down && on) (both (isNamed primary mask (p .number)) (across && (down && on)) e .1) .1) .1
 

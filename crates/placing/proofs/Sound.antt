@@ -25,13 +25,9 @@ use Rattle.reading.specs.declared.nikon.CropArea.{CropArea}
 use Rattle.reading.specs.declared.nikon.FocusRecord.{FocusRecord}
 use Rattle.placing.specs.Recorded.{positionOf}
 use Rattle.placing.specs.Focus.{andThen, refusedToo, pointOf, recordsPosition, alone, placedOf, focusIn, focusOf, LoadSound}
+use Rattle.placing.proofs.Frames.{either}
 use Rattle.placing.proofs.Position.{position-fits, alone-sound}
 use Rattle.placing.proofs.Listed.{present, listed-room, listed-fit}
-
--- what holds of both holds of the one that a test picks
-either : {A : Type 0} (P : A → Type 0) (b : Bool) (x y : A) → P x → P y → P (cond b x y)
-either P true x y p q = p
-either P false x y p q = q
 
 module _ (primary mask : ℕ) (mode : FocusAreaMode) where
   in-window : (w : Window) → Sound (placedIn (accepted w) primary mask mode)

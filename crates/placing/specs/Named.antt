@@ -88,15 +88,15 @@ abbrev pub lessOrigin : Window → TablePoint → FocusPoint
 lessOrigin w p =
     record {
       number = p .number;
-      center = record { x = p .center .x - w .origin .x; y = p .center .y - w .origin .y };
-      size = p .size;
+      center = record { x = p .x - w .origin .x; y = p .y - w .origin .y };
+      size = by (p .side) (p .side);
       «in_focus» = in-focus.Unrecorded;
     }
 
 -- "that fit": a center before the origin is below 0 in the window, so off it
 unfoldable pub fitsWindow : Window → TablePoint → Bool
 fitsWindow w p =
-    leb (w .origin .x) (p .center .x) && (leb (w .origin .y) (p .center .y) && pointFits (w .frame) (lessOrigin w p))
+    leb (w .origin .x) (p .x) && (leb (w .origin .y) (p .y) && pointFits (w .frame) (lessOrigin w p))
 
 -- "marked or primary"
 unfoldable pub isNamed : ℕ → ℕ → ℕ → Bool

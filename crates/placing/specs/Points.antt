@@ -20,11 +20,11 @@ hasTable model = same model d600
 
 -- "boxes 164 square": a point by its number and its center
 abbrev pub point : ℕ → ℕ → ℕ → TablePoint
-point n x y = record { number = n; center = record { x = x; y = y }; size = by 164 164 }
+point n x y = record { number = n; x = x; y = y; side = 164 }
 
 -- what stands past the table's end
 abbrev pub noTablePoint : TablePoint
-noTablePoint = record { number = 0; center = record { x = 0; y = 0 }; size = by 0 0 }
+noTablePoint = record { number = 0; x = 0; y = 0; side = 0 }
 
 -- "The table of 39 points is constant"; beside each its row, A at the top, and its column in the viewfinder
 abbrev pub points : List TablePoint

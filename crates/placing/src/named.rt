@@ -167,23 +167,24 @@ enum Placing {
 fn less_origin(point: TablePoint, window: Window) -> Placing
     ensures { λ r. ⌜ r ≡ ifListed (fitsWindow window point) (lessOrigin window point) ⌝ }
 {
-    let center = point.center;
-    let size = point.size;
     let frame = window.frame;
     let origin = window.origin;
-    if center.x < origin.x {
+    if point.x < origin.x {
         return Placing::Left;
     }
-    if center.y < origin.y {
+    if point.y < origin.y {
         return Placing::Left;
     }
     let moved = FocusPoint {
         number: point.number,
         center: Point {
-            x: center.x - origin.x,
-            y: center.y - origin.y,
+            x: point.x - origin.x,
+            y: point.y - origin.y,
         },
-        size,
+        size: Size {
+            width: point.side,
+            height: point.side,
+        },
         in_focus: InFocus::Unrecorded,
     };
     if !fitting::focus::point_fits(frame, moved) {

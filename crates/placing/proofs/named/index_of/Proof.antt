@@ -1,7 +1,7 @@
 -- `named::index_of`: the index is the points passed and the index among those that are left. Assumes nothing.
 use Prim.Native.Nat.{ℕ, suc, _+_, _-_, _<_, _≤_}
 use mathlib.Core.List.{List, [], _∷_}
-use mathlib.Core.Path.{_≡_, refl, sym, ap, _∙_}
+use mathlib.Core.Path.{_≡_, sym, ap, _∙_}
 use native.Mathlib.Nat.{add-zero, zero-add}
 use native.Mathlib.Numerals.{add-one}
 use native.Mathlib.Omega.{arith}
@@ -58,7 +58,10 @@ array-copy-out-p : tie.Need-array-copy-out-p Inv-loop μ-loop
 array-copy-out-p c = omega arith
 
 returns : tie.Need-returns Inv-loop μ-loop
-returns c = here _ _ (c .before .before .before .before .before .args .t1) (search needs) (c .before .before .before .before .before .pre) _ (c .before .before .before .before .loop .inv .1) (c .before .before .before .loop-test .taken) (c .if1 .taken)
+returns c =
+    here _ _ (c .before .before .before .before .before .args .t1) (search needs)
+    (c .before .before .before .before .before .pre) _ (c .before .before .before .before .loop .inv .1)
+    (c .before .before .before .loop-test .taken) (c .if1 .taken)
 
 add-i : tie.Need-add-i Inv-loop μ-loop
 add-i c = omega arith
@@ -67,10 +70,13 @@ loop-less : tie.Need-loop-less Inv-loop μ-loop
 loop-less c = omega arith
 
 loop-again : tie.Need-loop-again Inv-loop μ-loop
-loop-again c = (omega arith, more _ _ (c .before .before .before .before .before .args .t1) (search needs) (c .before .before .before .before .before .pre) _ (c .before .before .before .before .loop .inv .1) (c .before .before .before .loop-test .taken) (c .if1 .left))
+loop-again c =
+    (omega arith, more _ _ (c .before .before .before .before .before .args .t1) (search needs) (c .before .before .before .before .before .pre) _ (c .before .before .before .before .loop .inv .1) (c .before .before .before .loop-test .taken) (c .if1 .left))
 
 returns-2 : tie.Need-returns-2 Inv-loop μ-loop
-returns-2 c = end _ _ (c .before .before .args .t1) (search needs) (c .before .before .pre) _ (c .before .loop .inv .1) (c .before .loop .inv .0) (c .loop-test .left)
+returns-2 c =
+    end _ _ (c .before .before .args .t1) (search needs) (c .before .before .pre) _ (c .before .loop .inv .1)
+    (c .before .loop .inv .0) (c .loop-test .left)
 
 pub index-of-spec : {M : Type 1} → statement M
 index-of-spec =

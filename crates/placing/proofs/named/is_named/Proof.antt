@@ -1,5 +1,4 @@
 -- `named::is_named`: the primary, or else by the mask. Assumes nothing.
-use mathlib.Core.Path.{refl}
 use borrow.Author.Tests.{eq-eqb, ne-eqb}
 use Rattle.placing.specs.Named.{isNamed}
 use borrow.Author.Needs.{needs}

@@ -1,6 +1,6 @@
 -- `named::listed_points`: the loop collects the points at the front of the places; the rows that are left decide the rest. Assumes
 -- nothing.
-use mathlib.Core.Path.{_≡_, refl, ap}
+use mathlib.Core.Path.{_≡_, refl}
 use mathlib.Core.Bool.{Bool, true, false, cond}
 use mathlib.Core.List.{List, [], _∷_}
 use mathlib.Core.Logic.{⊎-elim}
@@ -77,7 +77,9 @@ no-places-requires : tie.Need-no-places-requires Inv-loop μ-loop
 no-places-requires c κs = search needs
 
 loop-holds : tie.Need-loop-holds Inv-loop μ-loop
-loop-holds c = ((omega arith, omega arith), start (c .before .args .window) (c .before .args .primary) (c .before .args .mask) _ (c .no-places .ensures))
+loop-holds c =
+    let a = (c .before .args) in
+    ((omega arith, omega arith), start (a .window) (a .primary) (a .mask) _ (c .no-places .ensures))
 
 point-at-requires : tie.Need-point-at-requires Inv-loop μ-loop
 point-at-requires c κs = search needs
@@ -107,21 +109,29 @@ loop-less : tie.Need-loop-less Inv-loop μ-loop
 loop-less c = omega arith
 
 loop-again : tie.Need-loop-again Inv-loop μ-loop
-loop-again c = let l = (c .before .before .before .before .loop) in
+loop-again c =
+    let a = (c .before .before .before .before .before .before .args) in
+    let l = (c .before .before .before .before .loop) in
     let t = (c .before .before .before .loop-test .taken) in
+    let ep = (c .before .before .point-at .ensures) in
+    let er = (c .before .placed-point .ensures) in
     ⊎-elim
     (λ w. (
       (omega arith, omega (arith, w .4)),
-      rw (w .3, w .4) (is-listed (c .before .before .before .before .before .before .args .window) (c .before .before .before .before .before .before .args .primary) (c .before .before .before .before .before .before .args .mask) (l .count) (l .i) (l .points) t _ (c .before .before .point-at .ensures) _ (c .before .placed-point .ensures) (l .inv .1) _ (omega arith) (w .1 .given .1)),
+      rw (w .3, w .4)
+          (is-listed (a .window) (a .primary) (a .mask) (l .count) (l .i) (l .points) t _ ep _ er (l .inv .1) _ (omega arith) (w .1 .given .1)),
     ))
     (λ w. (
       (omega arith, omega (arith, w .3)),
-      rw (w .2, w .3) (is-left (c .before .before .before .before .before .before .args .window) (c .before .before .before .before .before .before .args .primary) (c .before .before .before .before .before .before .args .mask) (l .count) (l .i) (l .points) t _ (c .before .before .point-at .ensures) _ (c .before .placed-point .ensures) (l .inv .1) (w .1 .given .1)),
+      rw (w .2, w .3)
+          (is-left (a .window) (a .primary) (a .mask) (l .count) (l .i) (l .points) t _ ep _ er (l .inv .1) (w .1 .given .1)),
     ))
     (c .match .came)
 
 returns : tie.Need-returns Inv-loop μ-loop
-returns c = end (c .before .before .before .args .window) (c .before .before .before .args .primary) (c .before .before .before .args .mask) _ _ (c .before .loop .i) (omega arith) (c .before .loop .inv .1)
+returns c =
+    let a = (c .before .before .before .args) in
+    end (a .window) (a .primary) (a .mask) _ _ (c .before .loop .i) (omega arith) (c .before .loop .inv .1)
 
 pub listed-points-spec : {M : Type 1} → statement M
 listed-points-spec =

@@ -28,10 +28,14 @@ enum-told : tie.Need-enum-told
 enum-told c = search needs
 
 returns : tie.Need-returns
-returns c = given (c .before .before .before .before .args .picture) _ (c .before .before .before .before .args .size) _ (c .before .before .picture .given .1) (c .same-size .ensures)
+returns c =
+    let a = (c .before .before .before .before .args) in
+    given (a .picture) _ (a .size) _ (c .before .before .picture .given .1) (c .same-size .ensures)
 
 returns-2 : tie.Need-returns-2
-returns-2 c = missing (c .before .before .args .picture) (c .before .before .args .size) (c .enum-told .given .1)
+returns-2 c =
+    let a = (c .before .before .args) in
+    missing (a .picture) (a .size) (c .enum-told .given .1)
 
 pub none-or-spec : {M : Type 1} → statement M
 none-or-spec =

@@ -2,7 +2,7 @@
 use mathlib.Core.Path.{_≡_}
 use mathlib.Core.Bool.{Bool, true, false, not}
 use borrow.Author.Tests.{eq-eqb, ne-eqb, not-true, not-false}
-use Rattle.reading.specs.Outcome.{Outcome, refused, accepted}
+use Rattle.reading.specs.Outcome.{refused, accepted}
 use Rattle.reading.specs.declared.geometry.OptionalSize.{OptionalSize}
 use Rattle.reading.specs.declared.nikon.CropHiSpeed.{CropHiSpeed}
 use Rattle.placing.specs.Named.{dx, samePlace, noneOr, onCrop}
@@ -30,22 +30,35 @@ module _ (crop : CropHiSpeed) (picture : OptionalSize) where
       confirmed n = rw (eq-eqb (crop .mode) 2 h, ← ea, not-false a there, ← eb, not-false b n)
 
 returns : tie.Need-returns
-returns c = other-mode (c .before .before .args .crop) (c .before .before .args .picture) (c .if1 .taken)
+returns c =
+    let a = (c .before .before .args) in
+    other-mode (a .crop) (a .picture) (c .if1 .taken)
 
 same-place-requires : tie.Need-same-place-requires
 same-place-requires c κs = search needs
 
 returns-2 : tie.Need-returns-2
-returns-2 c = elsewhere (c .before .before .before .before .before .before .args .crop) (c .before .before .before .before .before .before .args .picture) (c .before .before .before .before .if1 .left) _ (c .before .same-place .ensures) (c .if2 .taken)
+returns-2 c =
+    let a = (c .before .before .before .before .before .before .args) in
+    elsewhere (a .crop) (a .picture) (c .before .before .before .before .if1 .left) _ (c .before .same-place .ensures)
+    (c .if2 .taken)
 
 none-or-requires : tie.Need-none-or-requires
 none-or-requires c κs = search needs
 
 returns-3 : tie.Need-returns-3
-returns-3 c = other-size (c .before .before .before .before .before .before .before .before .before .args .crop) (c .before .before .before .before .before .before .before .before .before .args .picture) (c .before .before .before .before .before .before .before .if1 .left) _ (c .before .before .before .before .same-place .ensures) (c .before .before .before .if2 .left) _ (c .before .none-or .ensures) (c .if3 .taken)
+returns-3 c =
+    let a = (c .before .before .before .before .before .before .before .before .before .args) in
+    other-size (a .crop) (a .picture) (c .before .before .before .before .before .before .before .if1 .left) _
+    (c .before .before .before .before .same-place .ensures) (c .before .before .before .if2 .left) _
+    (c .before .none-or .ensures) (c .if3 .taken)
 
 returns-4 : tie.Need-returns-4
-returns-4 c = confirmed (c .before .before .before .before .before .before .before .before .before .args .crop) (c .before .before .before .before .before .before .before .before .before .args .picture) (c .before .before .before .before .before .before .before .if1 .left) _ (c .before .before .before .before .same-place .ensures) (c .before .before .before .if2 .left) _ (c .before .none-or .ensures) (c .if3 .left)
+returns-4 c =
+    let a = (c .before .before .before .before .before .before .before .before .before .args) in
+    confirmed (a .crop) (a .picture) (c .before .before .before .before .before .before .before .if1 .left) _
+    (c .before .before .before .before .same-place .ensures) (c .before .before .before .if2 .left) _
+    (c .before .none-or .ensures) (c .if3 .left)
 
 pub on-crop-spec : {M : Type 1} → statement M
 on-crop-spec =

@@ -1,11 +1,11 @@
 -- `named::placed`: what is tested on the way to each return, as in the definition. Assumes nothing.
 use Prim.Native.Nat.{ℕ}
-use mathlib.Core.Path.{_≡_, refl, _∙_}
+use mathlib.Core.Path.{_≡_}
 use mathlib.Core.Bool.{Bool, true, false, not}
 use mathlib.Core.List.{List}
 use borrow.Author.Tests.{eq-eqb, ne-eqb, not-true, not-false}
 use denote.Ref.{now}
-use Rattle.reading.specs.Outcome.{Outcome, refused, accepted}
+use Rattle.reading.specs.Outcome.{refused, accepted}
 use Rattle.reading.specs.declared.geometry.OptionalSize.{OptionalSize}
 use Rattle.reading.specs.declared.focus.FocusAreaMode.{FocusAreaMode}
 use Rattle.reading.specs.declared.nikon.Crop.{Crop}
@@ -63,13 +63,21 @@ no-points-requires : tie.Need-no-points-requires
 no-points-requires c κs = search needs
 
 returns : tie.Need-returns
-returns c = other-model (c .before .before .before .before .before .before .before .args .named) (now (c .before .before .before .before .before .before .before .args .model)) (c .before .before .before .before .before .before .before .args .crop) (c .before .before .before .before .before .before .before .args .picture) (c .before .before .before .before .before .before .before .args .area-mode) _ _ _ _ (c .before .before .before .before .named .given .1) _ (c .before .before .has-table .ensures) (c .no-points .ensures) (c .before .if1 .taken)
+returns c =
+    let a = (c .before .before .before .before .before .before .before .args) in
+    other-model (a .named) (now (a .model)) (a .crop) (a .picture) (a .area-mode) _ _ _ _
+    (c .before .before .before .before .named .given .1) _ (c .before .before .has-table .ensures) (c .no-points .ensures)
+    (c .before .if1 .taken)
 
 no-points-requires-2 : tie.Need-no-points-requires-2
 no-points-requires-2 c κs = search needs
 
 returns-2 : tie.Need-returns-2
-returns-2 c = other-code (c .before .before .before .before .before .before .before .before .args .named) (now (c .before .before .before .before .before .before .before .before .args .model)) (c .before .before .before .before .before .before .before .before .args .crop) (c .before .before .before .before .before .before .before .before .args .picture) (c .before .before .before .before .before .before .before .before .args .area-mode) _ _ _ _ (c .before .before .before .before .before .named .given .1) _ (c .before .before .before .has-table .ensures) (c .before .before .if1 .left) (c .no-points2 .ensures) (c .before .if2 .taken)
+returns-2 c =
+    let a = (c .before .before .before .before .before .before .before .before .args) in
+    other-code (a .named) (now (a .model)) (a .crop) (a .picture) (a .area-mode) _ _ _ _
+    (c .before .before .before .before .before .named .given .1) _ (c .before .before .before .has-table .ensures)
+    (c .before .before .if1 .left) (c .no-points2 .ensures) (c .before .if2 .taken)
 
 placed-frame-requires : tie.Need-placed-frame-requires
 placed-frame-requires c κs = search needs
@@ -96,13 +104,30 @@ no-points-requires-4 : tie.Need-no-points-requires-4
 no-points-requires-4 c κs = search needs
 
 returns-3 : tie.Need-returns-3
-returns-3 c = confirmed (c .before .before .before .before .before .before .before .before .before .before .before .before .args .named) (now (c .before .before .before .before .before .before .before .before .before .before .before .before .args .model)) (c .before .before .before .before .before .before .before .before .before .before .before .before .args .crop) (c .before .before .before .before .before .before .before .before .before .before .before .before .args .picture) (c .before .before .before .before .before .before .before .before .before .before .before .before .args .area-mode) _ _ _ _ (c .before .before .before .before .before .before .before .before .before .named .given .1) _ (c .before .before .before .before .before .before .before .has-table .ensures) (c .before .before .before .before .before .before .if1 .left) (c .before .before .before .before .before .if2 .left) (c .before .before .before .before .placed-frame .result) (c .before .before .before .before .placed-frame .ensures) _ (c .before .before .window .given .1) (c .placed-in .ensures)
+returns-3 c =
+    let a = (c .before .before .before .before .before .before .before .before .before .before .before .before .args) in
+    confirmed (a .named) (now (a .model)) (a .crop) (a .picture) (a .area-mode) _ _ _ _
+    (c .before .before .before .before .before .before .before .before .before .named .given .1) _
+    (c .before .before .before .before .before .before .before .has-table .ensures)
+    (c .before .before .before .before .before .before .if1 .left) (c .before .before .before .before .before .if2 .left)
+    (c .before .before .before .before .placed-frame .result) (c .before .before .before .before .placed-frame .ensures) _
+    (c .before .before .window .given .1) (c .placed-in .ensures)
 
 returns-4 : tie.Need-returns-4
-returns-4 c = unconfirmed (c .before .before .before .before .before .before .before .before .before .before .before .args .named) (now (c .before .before .before .before .before .before .before .before .before .before .before .args .model)) (c .before .before .before .before .before .before .before .before .before .before .before .args .crop) (c .before .before .before .before .before .before .before .before .before .before .before .args .picture) (c .before .before .before .before .before .before .before .before .before .before .before .args .area-mode) _ _ _ _ (c .before .before .before .before .before .before .before .before .named .given .1) _ (c .before .before .before .before .before .before .has-table .ensures) (c .before .before .before .before .before .if1 .left) (c .before .before .before .before .if2 .left) (c .before .before .before .placed-frame .result) (c .before .before .before .placed-frame .ensures) (c .no-points3 .ensures) (c .before .enum-told .given .1)
+returns-4 c =
+    let a = (c .before .before .before .before .before .before .before .before .before .before .before .args) in
+    unconfirmed (a .named) (now (a .model)) (a .crop) (a .picture) (a .area-mode) _ _ _ _
+    (c .before .before .before .before .before .before .before .before .named .given .1) _
+    (c .before .before .before .before .before .before .has-table .ensures)
+    (c .before .before .before .before .before .if1 .left) (c .before .before .before .before .if2 .left)
+    (c .before .before .before .placed-frame .result) (c .before .before .before .placed-frame .ensures)
+    (c .no-points3 .ensures) (c .before .enum-told .given .1)
 
 returns-5 : tie.Need-returns-5
-returns-5 c = no-names (c .before .before .before .before .args .named) (now (c .before .before .before .before .args .model)) (c .before .before .before .before .args .crop) (c .before .before .before .before .args .picture) (c .before .before .before .before .args .area-mode) _ (c .no-points4 .ensures) (c .before .enum-told2 .given .1)
+returns-5 c =
+    let a = (c .before .before .before .before .args) in
+    no-names (a .named) (now (a .model)) (a .crop) (a .picture) (a .area-mode) _ (c .no-points4 .ensures)
+    (c .before .enum-told2 .given .1)
 
 pub placed-spec : {M : Type 1} → statement M
 placed-spec =

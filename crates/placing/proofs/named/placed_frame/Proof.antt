@@ -1,7 +1,7 @@
 -- `named::placed_frame`: by cases on the crop, then whether it cuts anything. Assumes nothing.
 use mathlib.Core.Path.{_≡_}
 use mathlib.Core.Bool.{Bool, true, false}
-use Rattle.reading.specs.Outcome.{Outcome, refused, accepted}
+use Rattle.reading.specs.Outcome.{accepted}
 use Rattle.reading.specs.declared.geometry.OptionalSize.{OptionalSize}
 use Rattle.reading.specs.declared.nikon.CropHiSpeed.{CropHiSpeed}
 use Rattle.reading.specs.declared.nikon.Crop.{Crop}
@@ -38,7 +38,10 @@ uncropped-window-requires : tie.Need-uncropped-window-requires
 uncropped-window-requires c κs = search needs
 
 returns : tie.Need-returns
-returns c = not-cut (c .before .before .before .before .before .before .before .before .args .crop) (c .before .before .before .before .before .before .before .before .args .picture) _ (c .before .before .before .before .before .before .crop .given .1) _ (c .before .before .same-size .ensures) (c .before .if1 .taken) _ (c .uncropped-window .ensures)
+returns c =
+    let a = (c .before .before .before .before .before .before .before .before .args) in
+    not-cut (a .crop) (a .picture) _ (c .before .before .before .before .before .before .crop .given .1) _
+    (c .before .before .same-size .ensures) (c .before .if1 .taken) _ (c .uncropped-window .ensures)
 
 on-crop-requires : tie.Need-on-crop-requires
 on-crop-requires c κs = search needs
@@ -50,10 +53,15 @@ uncropped-window-requires-2 : tie.Need-uncropped-window-requires-2
 uncropped-window-requires-2 c κs = search needs
 
 returns-2 : tie.Need-returns-2
-returns-2 c = cut (c .before .before .before .before .before .before .before .before .args .crop) (c .before .before .before .before .before .before .before .before .args .picture) _ (c .before .before .before .before .before .before .crop .given .1) _ (c .before .before .same-size .ensures) (c .before .if1 .left) (c .on-crop .result) (c .on-crop .ensures)
+returns-2 c =
+    let a = (c .before .before .before .before .before .before .before .before .args) in
+    cut (a .crop) (a .picture) _ (c .before .before .before .before .before .before .crop .given .1) _
+    (c .before .before .same-size .ensures) (c .before .if1 .left) (c .on-crop .result) (c .on-crop .ensures)
 
 returns-3 : tie.Need-returns-3
-returns-3 c = no-crop (c .before .before .before .args .crop) (c .before .before .before .args .picture) (c .before .enum-told .given .1) _ (c .uncropped-window2 .ensures)
+returns-3 c =
+    let a = (c .before .before .before .args) in
+    no-crop (a .crop) (a .picture) (c .before .enum-told .given .1) _ (c .uncropped-window2 .ensures)
 
 pub placed-frame-spec : {M : Type 1} → statement M
 placed-frame-spec =

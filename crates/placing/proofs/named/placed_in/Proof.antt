@@ -5,7 +5,7 @@ use mathlib.Core.Bool.{Bool, true, false, cond}
 use native.Mathlib.Omega.{arith}
 use lib.ListN.{length, take, replicate}
 use lib.Seq.{take-at}
-use Rattle.reading.specs.Outcome.{Outcome, refused, accepted}
+use Rattle.reading.specs.Outcome.{refused, accepted}
 use Rattle.reading.specs.declared.focus.FocusAreaMode.{FocusAreaMode}
 use Rattle.placing.specs.declared.focus.FocusOrigin.the-variants.{Table}
 use Rattle.placing.specs.declared.focus.Refusal.the-variants.{Unnamed}
@@ -80,16 +80,24 @@ listed-points-requires : tie.Need-listed-points-requires
 listed-points-requires c κs = search needs
 
 index-of-requires : tie.Need-index-of-requires
-index-of-requires c κs = count-fits (c .before .before .args .window) (c .before .before .args .primary) (c .before .before .args .mask) (c .before .before .args .area-mode) _ (c .before .listed-points .ensures)
+index-of-requires c κs =
+    let a = (c .before .before .args) in
+    count-fits (a .window) (a .primary) (a .mask) (a .area-mode) _ (c .before .listed-points .ensures)
 
 no-points-requires : tie.Need-no-points-requires
 no-points-requires c κs = search needs
 
 returns : tie.Need-returns
-returns c = none (c .before .before .before .before .before .args .window) (c .before .before .before .before .before .args .primary) (c .before .before .before .before .before .args .mask) (c .before .before .before .before .before .args .area-mode) _ (c .before .before .before .before .listed-points .ensures) _ (c .before .before .index-of .ensures) (c .before .if1 .taken) _ (c .no-points .ensures)
+returns c =
+    let a = (c .before .before .before .before .before .args) in
+    none (a .window) (a .primary) (a .mask) (a .area-mode) _ (c .before .before .before .before .listed-points .ensures) _
+    (c .before .before .index-of .ensures) (c .before .if1 .taken) _ (c .no-points .ensures)
 
 returns-2 : tie.Need-returns-2
-returns-2 c = some (c .before .before .before .before .before .args .window) (c .before .before .before .before .before .args .primary) (c .before .before .before .before .before .args .mask) (c .before .before .before .before .before .args .area-mode) _ (c .before .before .before .before .listed-points .ensures) _ (c .before .before .index-of .ensures) (c .before .if1 .left)
+returns-2 c =
+    let a = (c .before .before .before .before .before .args) in
+    some (a .window) (a .primary) (a .mask) (a .area-mode) _ (c .before .before .before .before .listed-points .ensures) _
+    (c .before .before .index-of .ensures) (c .before .if1 .left)
 
 pub placed-in-spec : {M : Type 1} → statement M
 placed-in-spec =

@@ -26,13 +26,18 @@ is-named-requires : tie.Need-is-named-requires
 is-named-requires c κs = search needs
 
 returns : tie.Need-returns
-returns c = not-named (c .before .before .args .window) (c .before .before .args .primary) (c .before .before .args .mask) (c .before .before .args .point) _ (c .before .is-named .ensures) (c .if1 .taken)
+returns c =
+    let a = (c .before .before .args) in
+    not-named (a .window) (a .primary) (a .mask) (a .point) _ (c .before .is-named .ensures) (c .if1 .taken)
 
 less-origin-requires : tie.Need-less-origin-requires
 less-origin-requires c κs = search needs
 
 returns-2 : tie.Need-returns-2
-returns-2 c = is-named (c .before .before .before .args .window) (c .before .before .before .args .primary) (c .before .before .before .args .mask) (c .before .before .before .args .point) _ (c .before .before .is-named .ensures) (c .before .if1 .left) _ (c .less-origin .ensures)
+returns-2 c =
+    let a = (c .before .before .before .args) in
+    is-named (a .window) (a .primary) (a .mask) (a .point) _ (c .before .before .is-named .ensures) (c .before .if1 .left) _
+    (c .less-origin .ensures)
 
 pub placed-point-spec : {M : Type 1} → statement M
 placed-point-spec = tie.close (tie.spec is-named-requires returns less-origin-requires returns-2)

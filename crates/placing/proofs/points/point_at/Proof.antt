@@ -1,5 +1,5 @@
 -- `points::point_at`: the code's table is the definition's; past it there is no point. Assumes nothing.
-use mathlib.Core.Path.{sym}
+use mathlib.Core.Path.{refl, sym}
 use lib.ListN.{List·getD-eq-default}
 use Rattle.placing.specs.Points.{points, noTablePoint}
 use borrow.Author.Needs.{needs}
@@ -13,7 +13,7 @@ array-copy-out-p : tie.Need-array-copy-out-p
 array-copy-out-p c = search needs
 
 returns : tie.Need-returns
-returns c = search needs
+returns c = refl
 
 returns-2 : tie.Need-returns-2
 returns-2 c = sym (List·getD-eq-default points noTablePoint (c .if1 .left))

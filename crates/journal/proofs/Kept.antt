@@ -1,0 +1,112 @@
+-- On every sheet, also one made by hand, a refused call leaves sheet and buffer as they were: each definition of the sheet by the
+-- cases of its tests. Assumes nothing.
+use Prim.Native.Nat.{ℕ, _-_}
+use mathlib.Core.Bool.{Bool, true, false, cond, false≢true}
+use mathlib.Core.List.{List, []}
+use mathlib.Core.Logic.{_⊎_, inl, inr}
+use mathlib.Core.Path.{_≡_, refl}
+use lib.Dec.{ltb, eqb}
+use lib.ListN.{length}
+use Rattle.reading.specs.Outcome.{Outcome, refused, accepted}
+use Rattle.reading.specs.declared.geometry.Size.{Size}
+use Rattle.fitting.specs.Fit.{hasZeroSide}
+use Rattle.placing.specs.Focus.{focusOf}
+use Rattle.placing.specs.Load.{Focus}
+use Rattle.sheet.specs.declared.edit.Edit.the-variants.{Cut}
+use Rattle.sheet.specs.declared.EditAnswer.the-variants.{Accepted, Empty, Full, BadCut, DropsPrimary, NothingStands}
+use Rattle.sheet.specs.declared.list.ListAnswer.the-variants as answers
+use Rattle.sheet.specs.declared.Sheet.{Sheet}
+use Rattle.sheet.specs.declared.Edited.{Edited}
+use Rattle.sheet.specs.Sheet.{editNumber, loadNumber, edited as editedTo, loadSheet, usable, presentFrame, withEdits, addEdit, ifOpen, turnSheet, mirrorSheet, cutPasses, keepsPrimary, cutSheet, backSheet}
+use Rattle.sheet.specs.Listing.{listNumber, listed as listedOf, isShort, headIn, over, flat, scaledAll, listAnswer, listBuffer, fitAnswer, fitBuffer}
+use Rattle.journal.specs.Journal.{Change, cut, turn, mirror, Answer}
+use Rattle.journal.specs.Calls.{Call, load, change, back, list, fit, lent, edited, loaded, listed, changed, sheetStep}
+use Rattle.journal.specs.Claim.{RefusedKeeps}
+
+abbrev isAccepted : Outcome (List ℕ) → Bool
+isAccepted (refused n) = false
+isAccepted (accepted given) = true
+
+-- a call that ends so on the sheet s, with the buffer b, is accepted or keeps both
+abbrev Keeps : Answer × Sheet → Sheet → List ℕ → Type 0
+Keeps r s b = (isAccepted (r .0 .outcome) ≡ true) ⊎ ((r .1 ≡ s) × (r .0 .buffer ≡ b))
+
+abbrev KeepsEdited : Edited → Sheet → Type 0
+KeepsEdited r s = (r .answer ≡ Accepted) ⊎ (r .sheet ≡ s)
+
+keeps-edited : {r : Edited} {s : Sheet} → KeepsEdited r s → Keeps (edited r) s []
+unfolding editNumber
+keeps-edited (inl e) = inl (rw e)
+keeps-edited (inr e) = inr (e, refl)
+
+opens : (s : Sheet) (r : Edited) → KeepsEdited r s → KeepsEdited (ifOpen s r) s
+unfolding ifOpen
+opens s r k = by (usable s) (ltb (s .standing) 64)
+  where
+    by : (a b : Bool) → KeepsEdited (cond a (cond b r (editedTo Full s)) (editedTo Empty s)) s
+    by true true = k
+    by true false = inr refl
+    by false b = inr refl
+
+cuts : (s : Sheet) (l t w h : ℕ) → KeepsEdited (cutSheet s l t w h) s
+unfolding cutSheet
+cuts s l t w h = opens s _ (by (cutPasses l t w h (presentFrame s)) (keepsPrimary s (Cut l t w h)))
+  where
+    by : (a b : Bool) → KeepsEdited (cond a (cond b (editedTo Accepted (addEdit s (Cut l t w h))) (editedTo DropsPrimary s)) (editedTo BadCut s)) s
+    by true true = inl refl
+    by true false = inr refl
+    by false b = inr refl
+
+changes : (s : Sheet) (c : Change) → KeepsEdited (changed s c) s
+unfolding turnSheet mirrorSheet
+changes s (cut l t w h) = cuts s l t w h
+changes s turn = opens s _ (inl refl)
+changes s mirror = opens s _ (inl refl)
+
+backs : (s : Sheet) → KeepsEdited (backSheet s) s
+unfolding backSheet
+backs s = by (usable s) (eqb (s .standing) 0)
+  where
+    by : (a b : Bool) → KeepsEdited (cond a (cond b (editedTo NothingStands s) (editedTo Accepted (withEdits s (s .edits) (s .standing - 1)))) (editedTo Empty s)) s
+    by true true = inr refl
+    by true false = inl refl
+    by false b = inr refl
+
+loads : (s : Sheet) (o : Outcome Focus) → Keeps (loaded (loadSheet s o)) s []
+unfolding loadSheet loadNumber
+loads s (refused n) = inr (refl, refl)
+loads s (accepted f) = inl refl
+
+lists : (s : Sheet) (b : List ℕ) → Keeps (listed (listAnswer s (length b)) (listBuffer s b) s) s b
+unfolding listAnswer listBuffer listNumber
+lists s b = by (usable s) (isShort s (length b))
+  where
+    by : (u v : Bool) → Keeps (listed (cond u (cond v answers.Short (answers.Listed (headIn (presentFrame s) s))) answers.Empty) (cond u (cond v b (over (flat (listedOf s)) b)) b) s) s b
+    by true true = inr (refl, refl)
+    by true false = inl refl
+    by false v = inr (refl, refl)
+
+fits : (s : Sheet) (box : Size) (b : List ℕ) → Keeps (listed (fitAnswer s box (length b)) (fitBuffer s box b) s) s b
+unfolding fitAnswer fitBuffer listNumber
+fits s box b = by (usable s) (hasZeroSide box) (isShort s (length b))
+  where
+    by : (u z v : Bool) → Keeps (listed (cond u (cond z answers.ZeroBox (cond v answers.Short (answers.Listed (headIn box s)))) answers.Empty) (cond u (cond z b (cond v b (over (flat (scaledAll (presentFrame s) box (listedOf s))) b))) b) s) s b
+    by true true v = inr (refl, refl)
+    by true false true = inr (refl, refl)
+    by true false false = inl refl
+    by false z v = inr (refl, refl)
+
+steps : (s : Sheet) (c : Call) → Keeps (sheetStep s c) s (lent c)
+unfolding sheetStep
+steps s (load block raw picture model) = loads s (focusOf block raw picture model)
+steps s (change c) = keeps-edited (changes s c)
+steps s back = keeps-edited (backs s)
+steps s (list b) = lists s b
+steps s (fit box b) = fits s box b
+
+pub refused-keeps : RefusedKeeps
+refused-keeps s c n e = by (steps s c)
+  where
+    by : Keeps (sheetStep s c) s (lent c) → (sheetStep s c .1 ≡ s) × (sheetStep s c .0 .buffer ≡ lent c)
+    by (inl a) = absurd (false≢true (rw e at a))
+    by (inr k) = k

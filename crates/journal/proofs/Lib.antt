@@ -1,0 +1,12 @@
+pub mod Carry
+pub mod Placed
+pub mod Numbers
+pub mod Claim
+pub mod Kept
+pub mod Holds
+pub mod Answers
+pub mod Shown
+pub mod Fitted
+pub mod Refusals
+pub mod Laws
+pub mod Example

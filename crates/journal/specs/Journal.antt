@@ -1,0 +1,202 @@
+-- 01, "Book": what the calls alone say. The journal is fed each call with its arguments, except the sheet, and every answer is
+-- worked out from what it holds. Of the sheet it knows nothing: the two share what one load gives, when a point fits a frame, how
+-- it is scaled, and 01's numbers for modes, origins and in-focus.
+use Prim.Native.Nat.{ℕ, _+_, _-_, _*_}
+use mathlib.Core.Bool.{Bool, true, false, _&&_, _||_, cond}
+use mathlib.Core.List.{List, [], _∷_, _++_, map}
+use mathlib.Core.Option.{Option, none, some}
+use lib.Dec.{leb, ltb, eqb}
+use lib.ListN.{getD, length, take, drop}
+use Rattle.reading.specs.Focus.{inFocusNumber, modeNumber}
+use Rattle.reading.specs.Outcome.{Outcome, refused, accepted}
+use Rattle.reading.specs.declared.geometry.Size.{Size}
+use Rattle.fitting.specs.declared.focus.FocusPoint.{FocusPoint}
+use Rattle.fitting.specs.Fit.{hasZeroSide, pointFits}
+use Rattle.fitting.specs.Scale.{scaledPoint}
+use Rattle.placing.specs.Load.{Focus, noPoint, originNumber}
+
+-- an edit: "cut left, top, width, height", turn (a clockwise quarter rotation), mirror
+pub data Change : Type 0 where
+  cut : ℕ → ℕ → ℕ → ℕ → Change
+  turn : Change
+  mirror : Change
+
+-- "It is empty, or holds a load and a row of standing edits": of the load "the frame, points in order, primary, area mode and
+-- origin that demand 2's definition gives"
+pub data Journal : Type 0 where
+  empty : Journal
+  holds : Focus → List Change → Journal
+
+-- ---- one edit
+-- a cut "makes width by height the frame"; at a turn "frame and areas swap sides"
+abbrev pub frameBy : Change → Size → Size
+frameBy (cut left top width height) f = record { width = width; height = height }
+frameBy turn f = record { width = f .height; height = f .width }
+frameBy mirror f = f
+
+-- "number and in-focus unchanged"
+abbrev pub movedTo : FocusPoint → ℕ → ℕ → Size → FocusPoint
+movedTo p x y a =
+    record { number = p .number; center = record { x = x; y = y }; size = a; «in_focus» = p .«in_focus» }
+
+-- where an edit moves a point of a frame w by h: a cut "subtracts (left, top)"; at a turn "(x, y) goes to (h − y, x), frame and
+-- areas swap sides"; "Mirror: (w − x, y)"
+abbrev pub pointBy : Change → Size → FocusPoint → FocusPoint
+pointBy (cut left top width height) f p = movedTo p (p .center .x - left) (p .center .y - top) (p .size)
+pointBy turn f p =
+    movedTo p (f .height - p .center .y) (p .center .x)
+    (record { width = p .size .height; height = p .size .width })
+pointBy mirror f p = movedTo p (f .width - p .center .x) (p .center .y) (p .size)
+
+-- "If at a cut, once moved, it doesn't fit the cut's frame, it is unlisted." A coordinate that the cut would bring below 0 is
+-- off that frame
+abbrev pub staysListed : Change → Size → FocusPoint → Bool
+staysListed (cut left top width height) f p =
+    leb left (p .center .x) &&
+    (leb top (p .center .y) &&
+    pointFits (record { width = width; height = height }) (pointBy (cut left top width height) f p))
+staysListed turn f p = true
+staysListed mirror f p = true
+
+-- ---- the row of standing edits
+-- "The present frame is the load's, changed by each standing edit in order."
+unfoldable pub frameAfter : Size → List Change → Size
+frameAfter f [] = f
+frameAfter f (c ∷ cs) = frameAfter (frameBy c f) cs
+
+-- a listed point moved by an edit, or no longer listed; one that is unlisted stays so
+abbrev pub movedBy : Change → Size → Option FocusPoint → Option FocusPoint
+movedBy c f none = none
+movedBy c f (some p) = cond (staysListed c f p) (some (pointBy c f p)) none
+
+-- "Each point is carried alone from the load through the row": where it is then, or none where a cut has unlisted it
+unfoldable pub carried : Size → Option FocusPoint → List Change → Option FocusPoint
+carried f o [] = o
+carried f o (c ∷ cs) = carried (frameBy c f) (movedBy c f o) cs
+
+abbrev pub isListed : Option FocusPoint → Bool
+isListed none = false
+isListed (some p) = true
+
+abbrev pub ifListed : Option FocusPoint → List FocusPoint
+ifListed none = []
+ifListed (some p) = p ∷ []
+
+-- "The others are listed in the load's order, where the row carried them": of some points of a load with the frame f
+unfoldable pub listed : Size → List Change → List FocusPoint → List FocusPoint
+listed f standing [] = []
+listed f standing (p ∷ ps) = ifListed (carried f (some p) standing) ++ listed f standing ps
+
+-- ---- what a journal that is not empty says
+abbrev pub presentFrame : Focus → List Change → Size
+presentFrame load standing = frameAfter (load .frame) standing
+
+abbrev pub listing : Focus → List Change → List FocusPoint
+listing load standing = listed (load .frame) standing (load .points)
+
+-- "the primary's index its place among them": how many are listed before it
+abbrev pub indexOf : Focus → List Change → ℕ
+indexOf load standing = length (listed (load .frame) standing (take (load .primary) (load .points)))
+
+abbrev pub primaryOf : Focus → FocusPoint
+primaryOf load = getD (load .points) (load .primary) noPoint
+
+-- where the row carries the primary
+abbrev pub primaryAfter : Focus → List Change → Option FocusPoint
+primaryAfter load standing = carried (load .frame) (some (primaryOf load)) standing
+
+-- "each point scaled from the present frame to" the box
+abbrev pub fitted : Focus → List Change → Size → List FocusPoint
+fitted load standing box = map (λ p. scaledPoint p (presentFrame load standing) box) (listing load standing)
+
+-- ---- how calls end
+-- refused by one of 01's numbers, or accepted with the numbers that the call gives (none, or a listing's head); and the buffer
+-- as the call leaves it (of a call that is lent none: no places)
+pub record Answer : Type 0 where
+  pub outcome : Outcome (List ℕ)
+  pub buffer : List ℕ
+
+abbrev pub no : ℕ → List ℕ → Answer
+no n buffer = record { outcome = refused n; buffer = buffer }
+
+abbrev pub ok : List ℕ → List ℕ → Answer
+ok given buffer = record { outcome = accepted given; buffer = buffer }
+
+-- "A load is judged by 1 to 6; accepted, the book holds" what it gives, "and no edits"
+unfoldable pub journalLoad : Journal → Outcome Focus → Answer × Journal
+journalLoad j (refused n) = (no n [], j)
+journalLoad j (accepted load) = (ok [] [], holds load [])
+
+-- "Any other call is judged by its numbers, from what the book holds. A refused call leaves the book as it is.": the lowest
+-- number that applies, if there is one, and the journals before and after
+abbrev pub ended : Option ℕ → Journal → Journal → Answer × Journal
+ended (some n) before after = (no n [], before)
+ended none before after = (ok [] [], after)
+
+-- 9: "cut has a zero side or passes the present frame"
+unfoldable pub isBadCut : ℕ → ℕ → ℕ → ℕ → Size → Bool
+isBadCut left top width height f =
+    eqb width 0 || (eqb height 0 || (ltb (f .width) (left + width) || ltb (f .height) (top + height)))
+
+-- 9, then 10: "cut would drop the primary"
+abbrev pub cutRefusal : Focus → List Change → Change → Option ℕ
+cutRefusal load standing (cut left top width height) =
+    cond (isBadCut left top width height (presentFrame load standing)) (some 9)
+    (cond (isListed (primaryAfter load (standing ++ cut left top width height ∷ []))) none (some 10))
+cutRefusal load standing turn = none
+cutRefusal load standing mirror = none
+
+-- 8: "64 edits stand"
+unfoldable pub changeRefusal : Focus → List Change → Change → Option ℕ
+changeRefusal load standing c = cond (leb 64 (length standing)) (some 8) (cutRefusal load standing c)
+
+-- 7: "sheet is empty". "An accepted cut, turn or mirror joins the row's end"
+unfoldable pub journalChange : Journal → Change → Answer × Journal
+journalChange empty c = (no 7 [], empty)
+journalChange (holds load standing) c =
+    ended (changeRefusal load standing c) (holds load standing) (holds load (standing ++ c ∷ []))
+
+-- 11: "back, but no edit stands"
+unfoldable pub backRefusal : List Change → Option ℕ
+backRefusal standing = cond (eqb (length standing) 0) (some 11) none
+
+-- "an accepted back takes the last edit off"
+unfoldable pub journalBack : Journal → Answer × Journal
+journalBack empty = (no 7 [], empty)
+journalBack (holds load standing) =
+    ended (backRefusal standing) (holds load standing) (holds load (take (length standing - 1) standing))
+
+-- "six 32-bit numbers a point: number (0 if recorded), x, y, width, height (both 0 without area), in-focus"
+unfoldable pub numbers : List FocusPoint → List ℕ
+numbers [] = []
+numbers (p ∷ ps) =
+    p .number ∷
+    p .center .x ∷
+    p .center .y ∷
+    p .size .width ∷ p .size .height ∷ inFocusNumber (p .«in_focus») ∷ numbers ps
+
+-- "frame, count, primary's index from 0, mode .., origin", of the points ps in the frame f
+abbrev pub head : Focus → List Change → Size → List FocusPoint → List ℕ
+head load standing f ps =
+    f .width ∷
+    f .height ∷
+    length ps ∷ indexOf load standing ∷ modeNumber (load .mode) ∷ originNumber (load .origin) ∷ []
+
+-- 13: "buffer shorter than 6 × count". Else the points' numbers are written; "the rest of the buffer is kept"
+unfoldable pub written : Focus → List Change → Size → List FocusPoint → List ℕ → Answer
+written load standing f ps buffer =
+    cond (ltb (length buffer) (6 * length ps)) (no 13 buffer)
+    (ok (head load standing f ps) (numbers ps ++ drop (6 * length ps) buffer))
+
+-- "gives 7 if the book is empty, 13 by the book's count, else the book's frame, count, index, mode, origin and six numbers a
+-- point"
+unfoldable pub journalList : Journal → List ℕ → Answer
+journalList empty buffer = no 7 buffer
+journalList (holds load standing) buffer =
+    written load standing (presentFrame load standing) (listing load standing) buffer
+
+-- "Fit answers and writes as list does, with the box as frame"; 12: "box for fitting has a zero side"
+unfoldable pub journalFit : Journal → Size → List ℕ → Answer
+journalFit empty box buffer = no 7 buffer
+journalFit (holds load standing) box buffer =
+    cond (hasZeroSide box) (no 12 buffer) (written load standing box (fitted load standing box) buffer)

@@ -1,0 +1,5 @@
+pub mod Journal
+pub mod Calls
+pub mod Claim
+pub mod Laws
+pub mod Example

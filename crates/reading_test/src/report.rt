@@ -1,0 +1,187 @@
+// What the readers answer for one block, as the parts of a line.
+use crate::print::bytes;
+use crate::print::number;
+use crate::print::text;
+use reading::focus::FocusAreaMode;
+use reading::focus::InFocus;
+use reading::geometry::OptionalSize;
+use reading::geometry::Size;
+use reading::ifd::Block;
+use reading::ifd::Found;
+use reading::io::ByteOrder;
+use reading::nikon::AfInfo2;
+use reading::nikon::ContentsAnswer;
+use reading::nikon::Crop;
+use reading::nikon::CropArea;
+use reading::nikon::FocusRecord;
+use reading::nikon::NamedPoints;
+ghost use mathlib.Core.Path.{_≡_};
+ghost use Rattle.reading.specs.Focus.{inFocusNumber, modeNumber};
+
+fn order_name(order: ByteOrder) {
+    match order {
+        ByteOrder::Little => text(b"little"),
+        ByteOrder::Big => text(b"big"),
+    }
+}
+
+// The first kept entry of a tag: its type, its count and its value.
+fn entry(block: &[u8], order: ByteOrder, tag: u16) {
+    number(b" | ", tag as u64);
+    let found = reading::ifd::find_entry(block, order, tag);
+    if !reading::ifd::is_kept(found) {
+        text(b" absent");
+        return;
+    }
+    number(b" type ", reading::ifd::type_of(found) as u64);
+    if let Found::Damaged { typ: _ } = found {
+        text(b" damaged");
+        return;
+    }
+    number(b" count ", reading::ifd::count_of(found) as u64);
+    let value = reading::ifd::value_of(block, found);
+    number(b" bytes ", value.len() as u64);
+    bytes(value);
+}
+
+fn manual_focus(block: &[u8], order: ByteOrder) {
+    if reading::nikon::manual_focus(block, order) {
+        text(b" | manual");
+    } else {
+        text(b" | not manual");
+    }
+}
+
+fn size(word: &[u8], width: u32, height: u32) {
+    number(word, width as u64);
+    number(b" ", height as u64);
+}
+
+fn crop(block: &[u8], order: ByteOrder) {
+    match reading::nikon::crop_hi_speed(block, order) {
+        Crop::Recorded(c) => {
+            number(b" | crop ", c.mode as u64);
+            size(b" ", c.original.width, c.original.height);
+            size(b" ", c.cropped.width, c.cropped.height);
+            size(b" ", c.origin.x, c.origin.y);
+        }
+        Crop::Unrecorded => text(b" | no crop"),
+    }
+}
+
+fn crop_area(block: &[u8], order: ByteOrder, raw: OptionalSize) {
+    match reading::nikon::crop_area(block, order, raw) {
+        CropArea::Window(s) => size(b" window ", s.width, s.height),
+        CropArea::Unusable => text(b" unusable"),
+        CropArea::Absent => text(b" absent"),
+    }
+}
+
+// CropArea in raw data of 6016 by 4016, and without a raw size.
+fn crop_areas(block: &[u8], order: ByteOrder) {
+    text(b" | area");
+    let raw = Size {
+        width: 6016,
+        height: 4016,
+    };
+    crop_area(block, order, OptionalSize::Given(raw));
+    text(b" without raw");
+    crop_area(block, order, OptionalSize::Missing);
+}
+
+fn in_focus_number(in_focus: InFocus) -> u64
+    ensures { λ r. ⌜ r ≡ inFocusNumber in_focus ⌝ }
+{
+    match in_focus {
+        InFocus::Unrecorded => 0,
+        InFocus::No => 1,
+        InFocus::Yes => 2,
+    }
+}
+
+fn mode_number(mode: FocusAreaMode) -> u64
+    ensures { λ r. ⌜ r ≡ modeNumber mode ⌝ }
+{
+    match mode {
+        FocusAreaMode::Unnamed => 0,
+        FocusAreaMode::Single => 1,
+        FocusAreaMode::Dynamic => 2,
+        FocusAreaMode::Auto => 3,
+        FocusAreaMode::Tracking => 4,
+    }
+}
+
+fn names(named: NamedPoints) {
+    match named {
+        NamedPoints::Named {
+            layout_code,
+            primary,
+            mask,
+        } => {
+            number(b" names ", layout_code as u64);
+            number(b" ", primary as u64);
+            number(b" ", mask);
+        }
+        NamedPoints::Unnamed => text(b" no names"),
+    }
+}
+
+fn focus_record(r: FocusRecord) {
+    size(b" | frame ", r.frame.width, r.frame.height);
+    size(b" center ", r.center.x, r.center.y);
+    size(b" area ", r.area.width, r.area.height);
+    let in_focus = r.in_focus;
+    number(b" focus ", in_focus_number(in_focus));
+    let mode = r.area_mode;
+    number(b" mode ", mode_number(mode));
+    let named = r.named;
+    names(named);
+}
+
+fn af_info2(block: &[u8], order: ByteOrder) {
+    match reading::nikon::af_info2(block, order) {
+        AfInfo2::Recorded(r) => focus_record(r),
+        AfInfo2::Unusable => text(b" | no 4"),
+        AfInfo2::Missing => text(b" | no 2"),
+    }
+}
+
+fn tag(n: u16) {
+    number(b" ", n as u64);
+}
+
+// The tags, in all their places.
+fn contents(block: &[u8]) {
+    let list = reading::nikon::contents(block);
+    let answer = list.answer;
+    match answer {
+        ContentsAnswer::Listed => text(b" | tags "),
+        ContentsAnswer::Unreadable => text(b" | no 1 "),
+    }
+    number(b"", list.count as u64);
+    tag(list.tags[0]);
+    tag(list.tags[1]);
+    tag(list.tags[2]);
+    tag(list.tags[3]);
+}
+
+// What every reader answers for a block that can be read.
+fn values(block: &[u8], order: ByteOrder) {
+    order_name(order);
+    entry(block, order, reading::nikon::FOCUS_MODE);
+    entry(block, order, reading::nikon::CROP_HI_SPEED);
+    entry(block, order, reading::nikon::CROP_AREA);
+    entry(block, order, reading::nikon::AF_INFO2);
+    manual_focus(block, order);
+    crop(block, order);
+    crop_areas(block, order);
+    af_info2(block, order);
+}
+
+pub fn block(s: &[u8]) {
+    match reading::ifd::parse_block(s) {
+        Block::Readable(order) => values(s, order),
+        Block::Unreadable => text(b"no 1"),
+    }
+    contents(s);
+}
