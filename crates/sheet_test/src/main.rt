@@ -1,0 +1,250 @@
+// Runs a list of calls on one sheet and prints what each answers and leaves in its buffer. A call is 512 bytes: its code in the
+// first, then what it takes, then zeros. 1 load: a byte of flags (1 raw size, 2 picture size), the two sizes as four 32-bit
+// numbers, the model's length in a byte, the block's length in two, the model, the block. 2 cut: left, top, width, height. 3 turn.
+// 4 mirror. 5 back. 6 list: the buffer's places in a byte. 7 fit: width, height, and the buffer's places in a byte. Numbers are
+// big-endian. Place i of a buffer holds i + 1 before a call. No contract can say what is printed: that is held to `stdout`.
+use libc::STDIN_FILENO;
+use libc::STDOUT_FILENO;
+use placing::focus::FocusAnswer;
+use placing::focus::FocusOrigin;
+use placing::focus::Refusal;
+use reading::focus::FocusAreaMode;
+use reading::geometry::OptionalSize;
+use reading::geometry::Size;
+use reading::io::ByteOrder;
+use sheet::Edited;
+use sheet::EditAnswer;
+use sheet::Loaded;
+use sheet::Sheet;
+use sheet::list::ListAnswer;
+use sheet::list::Listing;
+ghost use mathlib.Core.Path.{_≡_};
+ghost use Prim.Native.Nat.{_≤_};
+ghost use lib.ListN.{length};
+ghost use Rattle.reading.specs.Focus.{modeNumber};
+ghost use Rattle.placing.specs.Load.{refusalNumber, originNumber};
+ghost use Rattle.sheet.specs.Sheet.{editNumber};
+
+fn mode_number(m: FocusAreaMode) -> u32
+    ensures { λ r. ⌜ r ≡ modeNumber m ⌝ }
+{
+    match m {
+        FocusAreaMode::Unnamed => 0,
+        FocusAreaMode::Single => 1,
+        FocusAreaMode::Dynamic => 2,
+        FocusAreaMode::Auto => 3,
+        FocusAreaMode::Tracking => 4,
+    }
+}
+
+fn origin_number(o: FocusOrigin) -> u32
+    ensures { λ r. ⌜ r ≡ originNumber o ⌝ }
+{
+    match o {
+        FocusOrigin::Recorded => 1,
+        FocusOrigin::Table => 2,
+    }
+}
+
+fn refusal_number(why: Refusal) -> u32
+    ensures { λ r. ⌜ r ≡ refusalNumber why ⌝ }
+{
+    match why {
+        Refusal::Unreadable => 1,
+        Refusal::Missing => 2,
+        Refusal::Manual => 3,
+        Refusal::Unusable => 4,
+        Refusal::Unplaced => 5,
+        Refusal::Unnamed => 6,
+    }
+}
+
+fn edit_number(a: EditAnswer) -> u32
+    ensures { λ r. ⌜ r ≡ editNumber a ⌝ }
+{
+    match a {
+        EditAnswer::Accepted => 0,
+        EditAnswer::Empty => 7,
+        EditAnswer::Full => 8,
+        EditAnswer::BadCut => 9,
+        EditAnswer::DropsPrimary => 10,
+        EditAnswer::NothingStands => 11,
+    }
+}
+
+fn text(s: &[u8]) {
+    io::write_all(STDOUT_FILENO, s);
+}
+
+// A word and a number in decimal.
+fn number(word: &[u8], n: u32) {
+    text(word);
+    io::print_decimal(STDOUT_FILENO, n as u64);
+}
+
+// `ok`, or `no` and the number.
+fn print_number(n: u32) {
+    if n == 0 {
+        text(b"ok\n");
+    } else {
+        number(b"no ", n);
+        text(b"\n");
+    }
+}
+
+fn after_edit(r: Edited) -> Sheet {
+    let answer = r.answer;
+    print_number(edit_number(answer));
+    let s = r.sheet;
+    s
+}
+
+fn after_load(r: Loaded) -> Sheet {
+    let answer = r.answer;
+    match answer {
+        FocusAnswer::Placed => print_number(0),
+        FocusAnswer::Refused(why) => print_number(refusal_number(why)),
+    }
+    let s = r.sheet;
+    s
+}
+
+fn print_head(l: Listing) {
+    let frame = l.frame;
+    let mode = l.mode;
+    let origin = l.origin;
+    number(b"frame ", frame.width);
+    number(b" ", frame.height);
+    number(b" points ", (l.count % 64) as u32);
+    number(b" primary ", (l.index % 64) as u32);
+    number(b" mode ", mode_number(mode));
+    number(b" origin ", origin_number(origin));
+}
+
+fn print_list(a: ListAnswer) {
+    match a {
+        ListAnswer::Empty => text(b"no 7"),
+        ListAnswer::ZeroBox => text(b"no 12"),
+        ListAnswer::Short => text(b"no 13"),
+        ListAnswer::Listed(l) => print_head(l),
+    }
+}
+
+// The buffer's numbers, on the answer's line.
+fn print_buffer(out: &[u32]) {
+    text(b" |");
+    let mut i: usize = 0;
+    while i < out.len() {
+        number(b" ", out[i]);
+        i += 1;
+    }
+    text(b"\n");
+}
+
+// 256 places, of which place i holds i + 1.
+fn places() -> [u32; 256]
+    ensures { λ r. ⌜ 256 ≡ length r ⌝ }
+{
+    let mut p = [0u32; 256];
+    let mut i: usize = 0;
+    while i < 256 {
+        p[i] = (i + 1) as u32;
+        i += 1;
+    }
+    p
+}
+
+// The 32-bit number at a place.
+fn number_at(s: &[u8], at: usize) -> u32 {
+    reading::io::u32_of(reading::io::tail(s, at), ByteOrder::Big)
+}
+
+fn size_at(s: &[u8], at: usize) -> Size {
+    let width = number_at(s, at);
+    let height = number_at(reading::io::tail(s, at), 4);
+    Size { width, height }
+}
+
+fn given_at(s: &[u8], at: usize, given: bool) -> OptionalSize {
+    if !given {
+        return OptionalSize::Missing;
+    }
+    OptionalSize::Given(size_at(s, at))
+}
+
+fn load(sheet: Sheet, call: &[u8]) -> Sheet {
+    let flags = reading::io::u8_at(call, 1);
+    let raw = given_at(call, 2, flags % 2 == 1);
+    let picture = given_at(call, 10, flags / 2 % 2 == 1);
+    let model_len = reading::io::u8_at(call, 18) as usize;
+    let block_len = reading::io::u16_of(reading::io::tail(call, 19), ByteOrder::Big) as usize;
+    let rest = reading::io::tail(call, 21);
+    let model = reading::io::head(rest, model_len);
+    let block = reading::io::head(reading::io::tail(rest, model_len), block_len);
+    after_load(sheet.load(block, raw, picture, model))
+}
+
+fn cut(sheet: Sheet, call: &[u8]) -> Sheet {
+    let left = number_at(call, 1);
+    let top = number_at(call, 5);
+    let width = number_at(call, 9);
+    let height = number_at(call, 13);
+    after_edit(sheet.cut(left, top, width, height))
+}
+
+fn list(sheet: Sheet, call: &[u8]) {
+    let n = reading::io::u8_at(call, 1) as usize;
+    let mut space = places();
+    let out: &mut [u32] = &mut space;
+    print_list(sheet.list(&mut out[..n]));
+    print_buffer(&out[..n]);
+}
+
+fn fit(sheet: Sheet, call: &[u8]) {
+    let n = reading::io::u8_at(call, 9) as usize;
+    let size = size_at(call, 1);
+    let mut space = places();
+    let out: &mut [u32] = &mut space;
+    print_list(sheet.fit(size, &mut out[..n]));
+    print_buffer(&out[..n]);
+}
+
+// Answers one call, and gives the sheet that it leaves.
+fn answer(sheet: Sheet, call: &[u8]) -> Sheet {
+    let code = reading::io::u8_at(call, 0);
+    match code {
+        1 => load(sheet, call),
+        2 => cut(sheet, call),
+        3 => after_edit(sheet.turn()),
+        4 => after_edit(sheet.mirror()),
+        5 => after_edit(sheet.back()),
+        6 => {
+            list(sheet, call);
+            sheet
+        }
+        _ => {
+            fit(sheet, call);
+            sheet
+        }
+    }
+}
+
+fn space() -> [u8; 512]
+    ensures { λ r. ⌜ 512 ≡ length r ⌝ }
+{
+    [0; 512]
+}
+
+fn main() {
+    let mut call = space();
+    let mut sheet = Sheet::new();
+    let mut turns = u64::MAX;
+    while turns > 0 {
+        let n = io::read_full(STDIN_FILENO, &mut call);
+        if n < 512 {
+            return;
+        }
+        sheet = answer(sheet, &call);
+        turns -= 1;
+    }
+}

@@ -1,0 +1,126 @@
+#!/usr/bin/env python3
+"""calls.py SEED COUNT
+
+Writes a list of COUNT calls for the program sheet_test, crates/sheet_test/stdin,
+and what it must print, crates/sheet_test/stdout: the answers and buffers of
+the book of reference.py, which is fed the calls alone. The loads are those
+that are stored for placing_test.
+"""
+
+import os
+import random
+import struct
+import sys
+
+sys.dont_write_bytecode = True
+
+import reference
+
+CRATES = os.path.join(os.path.dirname(os.path.abspath(__file__)), "..", "..", "crates")
+HUGE = [0, 1, 4294967295]
+
+
+def stored_loads():
+    """The loads of placing_test, as (raw, picture, model, block)."""
+    with open(os.path.join(CRATES, "placing_test", "stdin"), "rb") as file:
+        data = file.read()
+    for start in range(0, len(data), 512):
+        record = data[start : start + 512]
+        flags, *sides, model_length, block_length = struct.unpack(">B4IBH", record[:20])
+        model = record[20 : 20 + model_length]
+        block = record[20 + model_length : 20 + model_length + block_length]
+        if len(model) + len(block) <= 491:
+            yield (tuple(sides[:2]) if flags & 1 else None, tuple(sides[2:]) if flags & 2 else None, model, block)
+
+
+def load_bytes(raw, picture, model, block):
+    flags = (raw is not None) + 2 * (picture is not None)
+    return bytes([1]) + struct.pack(">B4IBH", flags, *(raw or (0, 0)), *(picture or (0, 0)),
+                                    len(model), len(block)) + model + block
+
+
+def a_cut(chance, book):
+    """Mostly a cut inside the present frame, around some listed point."""
+    if book.held is None or chance.random() < 0.1:
+        return [chance.choice(HUGE + [chance.randrange(7000)]) for _ in range(4)]
+    width, height = book.frame()
+    _, point = chance.choice(book.listed())
+    sides = []
+    for centre, side in ((point[1], width), (point[2], height)):
+        before = chance.randrange(centre + 1) if chance.random() < 0.7 else max(0, centre - chance.randrange(200))
+        length = chance.randrange(side - before + 2) if chance.random() < 0.3 else side - before
+        sides.append((before, length))
+    return [sides[0][0], sides[1][0], sides[0][1], sides[1][1]]
+
+
+def a_buffer(chance, book):
+    """How many places: often just enough, or one too few."""
+    needed = 0 if book.held is None else 6 * len(book.listed())
+    return chance.choice([needed, needed, min(255, needed + 3), 240, max(0, needed - 1), 0])
+
+
+def answer_line(answer, buffer=None):
+    text = "no %d" % answer[1] if reference.refused(answer) else "ok" if answer == "ok" else reference.head_line(answer)
+    return text if buffer is None else text + " |" + "".join(" %d" % n for n in buffer)
+
+
+def one_call(chance, book, loads):
+    kind = chance.choices(["load", "cut", "turn", "mirror", "back", "list", "fit"], [6, 22, 16, 12, 14, 20, 12])[0]
+    if kind == "load":
+        given = chance.choice(loads)
+        return load_bytes(*given), answer_line(book.load(given[3], given[0], given[1], given[2]))
+    if kind == "cut":
+        numbers = a_cut(chance, book)
+        return struct.pack(">B4I", 2, *numbers), answer_line(book.cut(*numbers))
+    if kind in ("turn", "mirror", "back"):
+        return bytes([{"turn": 3, "mirror": 4, "back": 5}[kind]]), answer_line(getattr(book, kind)())
+    places = a_buffer(chance, book)
+    buffer = list(range(1, places + 1))
+    if kind == "list":
+        return bytes([6, places]), answer_line(book.list(buffer), buffer)
+    box = [chance.choice([0, 1, 2, 37, 100, 640, 424, 1000, 6016, 4294967295]) for _ in range(2)]
+    return struct.pack(">B2IB", 7, *box, places), answer_line(book.fit(*box, buffer), buffer)
+
+
+def main(seed, count):
+    chance = random.Random(seed)
+    loads = list(stored_loads())
+    answers = [reference.load(given[3], given[0], given[1], given[2]) for given in loads]
+    refused = [given for given, answer in zip(loads, answers) if reference.refused(answer)]
+    accepted = [given for given, answer in zip(loads, answers) if not reference.refused(answer)]
+    many = [given for given, answer in zip(loads, answers) if not reference.refused(answer) and len(answer.points) > 4]
+    loads = refused + accepted + many * (len(refused) // len(many) + 1)
+    book = reference.Book()
+    calls, lines = [], []
+
+    def add(data, line):
+        calls.append(data.ljust(512, b"\0"))
+        lines.append(line)
+
+    while len(calls) < count - 80:
+        add(*one_call(chance, book, loads))
+    # A load, 64 turns, the 65th, and a listing behind them.
+    given = max(many, key=lambda g: len(reference.load(g[3], g[0], g[1], g[2]).points))
+    add(load_bytes(*given), answer_line(book.load(given[3], given[0], given[1], given[2])))
+    for _ in range(66):
+        add(bytes([3]), answer_line(book.turn()))
+    while len(calls) < count:
+        buffer = list(range(1, 241))
+        add(bytes([6, 240]), answer_line(book.list(buffer), buffer))
+        add(bytes([5]), answer_line(book.back()))
+    crate = os.path.join(CRATES, "sheet_test")
+    with open(os.path.join(crate, "stdin"), "wb") as file:
+        file.write(b"".join(calls))
+    with open(os.path.join(crate, "stdout"), "w") as file:
+        file.write("".join(line + "\n" for line in lines))
+    tally = {}
+    for line in lines:
+        word = line.split(" |")[0] if line.startswith("no") else line.split(" ")[0]
+        tally[word] = tally.get(word, 0) + 1
+    print("%d calls: %s" % (len(calls), ", ".join("%s: %d" % item for item in sorted(tally.items()))))
+
+
+if __name__ == "__main__":
+    if len(sys.argv) != 3:
+        sys.exit(__doc__.strip())
+    main(int(sys.argv[1]), int(sys.argv[2]))
