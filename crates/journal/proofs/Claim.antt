@@ -36,7 +36,7 @@ use Rattle.sheet.specs.Listing.{listNumber, headNumbers, listed as listedOf, li
 use Rattle.sheet.proofs.Buffer.{flat-length}
 use Rattle.sheet.proofs.Places.{length-places, take-places}
 use Rattle.sheet.proofs.Words.{stored-last}
-use Rattle.journal.specs.Journal.{Change, cut, turn, mirror, Journal, empty, holds, frameAfter, isListed, listed, presentFrame, listing, indexOf, primaryAfter, fitted, Answer, no, ok, ended, head, isBadCut, changeRefusal, backRefusal, journalLoad, journalChange, journalBack, numbers, written, journalList, journalFit}
+use Rattle.journal.specs.Journal.{Change, cut, turn, mirror, Journal, empty, holds, frameAfter, isListed, listed, presentFrame, listing, indexOf, primaryAfter, fitted, Answer, no, ok, ended, head, isBadCut, isFull, changeRefusal, backRefusal, journalLoad, journalChange, journalBack, numbers, written, journalList, journalFit}
 use Rattle.journal.specs.Calls.{Call, load, change, back, list, fit, journalStep, runJournal, numbered, edited, loaded, listed as listedAs, changed, sheetStep, runSheet}
 use Rattle.journal.specs.Claim.{Claim}
 use Rattle.journal.proofs.Carry.{but-last}
@@ -128,7 +128,7 @@ not-less a b = by (ltb a b) refl
     by true e = lt-leb b a (ltb-true a b e)
     by false e = le-leb b a (ltb-false a b e)
 
-full : (s : Sheet) → leb 64 (length (rowOf s)) ≡ not (ltb (s .standing) 64)
+full : (s : Sheet) → isFull (rowOf s) ≡ not (ltb (s .standing) 64)
 full s = rw (row-count (s .edits) (s .standing)) (not-less (s .standing) 64)
 
 present-frame : (s : Sheet) → frameOf s ≡ frameAfter (s .frame) (rowOf s)
@@ -168,7 +168,7 @@ primary-stays s h e =
 
 -- ---- turn and mirror
 plain : (s : Sheet) (h : Held s) (e : Edit) → Agree (edited (ifOpen s (editedTo Accepted (addEdit s e))))
-    (ended (cond (leb 64 (length (rowOf s))) (some 8) none) (holds (loadOf s) (rowOf s)) (holds (loadOf s) (rowOf s ++ changeOf e ∷ [])))
+    (ended (cond (isFull (rowOf s)) (some 8) none) (holds (loadOf s) (rowOf s)) (holds (loadOf s) (rowOf s ++ changeOf e ∷ [])))
 unfolding ifOpen editNumber
 plain s h e = rw (usable-held s h, full s) (by (ltb (s .standing) 64) refl)
   where

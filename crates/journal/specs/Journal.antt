@@ -147,8 +147,12 @@ cutRefusal load standing turn = none
 cutRefusal load standing mirror = none
 
 -- 8: "64 edits stand"
+abbrev pub isFull : List Change → Bool
+isFull standing = leb 64 (length standing)
+
+-- the lowest number that applies to an edit, 7 apart
 unfoldable pub changeRefusal : Focus → List Change → Change → Option ℕ
-changeRefusal load standing c = cond (leb 64 (length standing)) (some 8) (cutRefusal load standing c)
+changeRefusal load standing c = cond (isFull standing) (some 8) (cutRefusal load standing c)
 
 -- 7: "sheet is empty". "An accepted cut, turn or mirror joins the row's end"
 unfoldable pub journalChange : Journal → Change → Answer × Journal
