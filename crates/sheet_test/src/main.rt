@@ -12,8 +12,8 @@ use reading::focus::FocusAreaMode;
 use reading::geometry::OptionalSize;
 use reading::geometry::Size;
 use reading::io::ByteOrder;
-use sheet::Edited;
 use sheet::EditAnswer;
+use sheet::Edited;
 use sheet::Loaded;
 use sheet::Sheet;
 use sheet::list::ListAnswer;
@@ -192,21 +192,40 @@ fn cut(sheet: Sheet, call: &[u8]) -> Sheet {
     after_edit(sheet.cut(left, top, width, height))
 }
 
-fn list(sheet: Sheet, call: &[u8]) {
-    let n = reading::io::u8_at(call, 1) as usize;
-    let mut space = places();
-    let out: &mut [u32] = &mut space;
-    print_list(sheet.list(&mut out[..n]));
-    print_buffer(&out[..n]);
+fn list_into(sheet: Sheet, out: &mut [u32]) {
+    print_list(sheet.list(out));
+    print_buffer(out);
 }
 
-fn fit(sheet: Sheet, call: &[u8]) {
+fn fit_into(sheet: Sheet, size: Size, out: &mut [u32]) {
+    print_list(sheet.fit(size, out));
+    print_buffer(out);
+}
+
+fn list(sheet: Sheet, call: &[u8], out: &mut [u32])
+    requires { ⌜ length (now out) ≡ 256 ⌝ }
+{
+    let n = reading::io::u8_at(call, 1) as usize;
+    list_into(sheet, &mut out[..n]);
+}
+
+fn fit(sheet: Sheet, call: &[u8], out: &mut [u32])
+    requires { ⌜ length (now out) ≡ 256 ⌝ }
+{
     let n = reading::io::u8_at(call, 9) as usize;
     let size = size_at(call, 1);
+    fit_into(sheet, size, &mut out[..n]);
+}
+
+// A list or a fit on a buffer of its own.
+fn show(sheet: Sheet, call: &[u8], code: u8) {
     let mut space = places();
     let out: &mut [u32] = &mut space;
-    print_list(sheet.fit(size, &mut out[..n]));
-    print_buffer(&out[..n]);
+    if code == 6 {
+        list(sheet, call, out);
+    } else {
+        fit(sheet, call, out);
+    }
 }
 
 // Answers one call, and gives the sheet that it leaves.
@@ -218,12 +237,8 @@ fn answer(sheet: Sheet, call: &[u8]) -> Sheet {
         3 => after_edit(sheet.turn()),
         4 => after_edit(sheet.mirror()),
         5 => after_edit(sheet.back()),
-        6 => {
-            list(sheet, call);
-            sheet
-        }
         _ => {
-            fit(sheet, call);
+            show(sheet, call, code);
             sheet
         }
     }
