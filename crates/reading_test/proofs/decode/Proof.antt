@@ -6,8 +6,8 @@ use Prim.Native.Nat.{_≤_, _-_}
 use mathlib.Core.Path.{_≡_, refl, sym, _∙_}
 use lib.ListN.{length, length-set}
 use lib.Seq.{length-take-le}
-use Rattle.reading_test.proofs.hex.decode.Statement.{statement}
-use Rattle.reading_test.proofs.hex.decode.Tie as tie
+use Rattle.reading_test.proofs.decode.Statement.{statement}
+use Rattle.reading_test.proofs.decode.Tie as tie
 
 abbrev Inv-loop : tie.InvT-loop
 Inv-loop line out₀ n i₀ out i = (i ≤ n) × (length out ≡ length out₀)

@@ -4,8 +4,8 @@ use native.Mathlib.Omega.{arith}
 use borrow.Author.Needs.{needs}
 use Prim.Native.Nat.{_≤_, _-_}
 use lib.ListN.{length}
-use Rattle.reading_test.proofs.print.bytes.Statement.{statement}
-use Rattle.reading_test.proofs.print.bytes.Tie as tie
+use Rattle.reading_test.proofs.bytes.Statement.{statement}
+use Rattle.reading_test.proofs.bytes.Tie as tie
 
 abbrev Inv-loop : tie.InvT-loop
 Inv-loop s i₀ i = i ≤ length s

@@ -1,8 +1,8 @@
 -- `mode_number` is `modeNumber`: each case of the match is the definition's clause for it. Assumes nothing.
 use Rattle.reading.specs.Focus.{modeNumber}
 use borrow.Author.Needs.{needs}
-use Rattle.reading_test.proofs.report.mode_number.Statement.{statement}
-use Rattle.reading_test.proofs.report.mode_number.Tie as tie
+use Rattle.reading_test.proofs.mode_number.Statement.{statement}
+use Rattle.reading_test.proofs.mode_number.Tie as tie
 
 enum-told : tie.Need-enum-told
 enum-told c = search needs
