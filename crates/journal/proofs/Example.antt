@@ -8,7 +8,7 @@ use Rattle.reading.specs.Record.{layoutAmong, layoutOf, areaModeOf, maskOf, siz
 use Rattle.reading.specs.Focus.{inFocusNumber, modeNumber}
 use Rattle.fitting.specs.Fit.{axisFits, hasZeroSide, centerLiesOn, areaFits, noArea, liesOn, pointFits}
 use Rattle.placing.specs.Points.{hasTable}
-use Rattle.placing.specs.Named.{givenAs, uncropped, placedFrame, marked, fitsWindow, isNamed, isListed, listedFrom, hasNumber, indexOf, placedIn, namedOutcome}
+use Rattle.placing.specs.Named.{pictureIs, uncropped, placedFrame, marked, fitsWindow, isNamed, isListed, listedFrom, hasNumber, indexOf, placedIn, namedOutcome}
 use Rattle.placing.specs.Focus.{recordsPosition, placedOf, focusIn, focusOf}
 use Rattle.placing.specs.Load.{originNumber}
 use Rattle.journal.specs.Journal.{frameAfter, carried, listed, isBadCut, journalLoad, changeRefusal, journalChange, numbers, written, journalList}
@@ -17,5 +17,5 @@ use Rattle.journal.specs.Example.{wholeCase, WholeCase}
 use Rattle.journal.proofs.Claim.{claim}
 
 pub whole-case : WholeCase
-unfolding same u16Of u32Of shortsOf offsetOf entryCount directoryOf inOrder byMark blockOf sizeOf entryOf hasTag firstOf findOf manualFocusOf cropHiSpeedOf cropAreaOf layoutAmong layoutOf areaModeOf maskOf sizeAt recordIn recordOf afInfo2Of inFocusNumber modeNumber axisFits hasZeroSide centerLiesOn areaFits noArea liesOn pointFits hasTable givenAs uncropped placedFrame marked fitsWindow isNamed isListed listedFrom hasNumber indexOf placedIn namedOutcome recordsPosition placedOf focusIn focusOf originNumber frameAfter carried listed isBadCut journalLoad changeRefusal journalChange numbers written journalList journalStep runJournal
+unfolding same u16Of u32Of shortsOf offsetOf entryCount directoryOf inOrder byMark blockOf sizeOf entryOf hasTag firstOf findOf manualFocusOf cropHiSpeedOf cropAreaOf layoutAmong layoutOf areaModeOf maskOf sizeAt recordIn recordOf afInfo2Of inFocusNumber modeNumber axisFits hasZeroSide centerLiesOn areaFits noArea liesOn pointFits hasTable pictureIs uncropped placedFrame marked fitsWindow isNamed isListed listedFrom hasNumber indexOf placedIn namedOutcome recordsPosition placedOf focusIn focusOf originNumber frameAfter carried listed isBadCut journalLoad changeRefusal journalChange numbers written journalList journalStep runJournal
 whole-case = claim wholeCase ∙ refl

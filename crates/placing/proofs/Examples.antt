@@ -7,9 +7,9 @@ use Rattle.fitting.specs.Fit.{axisFits, hasZeroSide, centerLiesOn, areaFits, no
 use Rattle.fitting.specs.Scale.{scaleOf, trimOf, scaledSide, scaledCenter, scaledArea, keptArea, scaledSize, scaledPoint}
 use Rattle.placing.specs.Points.{hasTable}
 use Rattle.placing.specs.Load.{sameSize}
-use Rattle.placing.specs.Named.{samePlace, givenAs, noneOr, onCrop, uncropped, placedFrame, marked, fitsWindow, isNamed, isListed, listedFrom, hasNumber, indexOf, placedIn, namedOutcome}
+use Rattle.placing.specs.Named.{samePlace, pictureIs, onCrop, uncropped, placedFrame, marked, fitsWindow, isNamed, isListed, listedFrom, hasNumber, indexOf, placedIn, namedOutcome}
 use Rattle.placing.specs.Examples.{samePoint, isOnly, agrees, holds, Starred}
 
 pub starred : Starred
-unfolding holds agrees isOnly samePoint inFocusNumber same layoutAmong layoutOf recordOf hasTable axisFits hasZeroSide centerLiesOn areaFits noArea liesOn pointFits scaleOf trimOf scaledSide scaledCenter scaledArea keptArea scaledSize scaledPoint sameSize samePlace givenAs noneOr onCrop uncropped placedFrame marked fitsWindow isNamed isListed listedFrom hasNumber indexOf placedIn namedOutcome
+unfolding holds agrees isOnly samePoint inFocusNumber same layoutAmong layoutOf recordOf hasTable axisFits hasZeroSide centerLiesOn areaFits noArea liesOn pointFits scaleOf trimOf scaledSide scaledCenter scaledArea keptArea scaledSize scaledPoint sameSize samePlace pictureIs onCrop uncropped placedFrame marked fitsWindow isNamed isListed listedFrom hasNumber indexOf placedIn namedOutcome
 starred = refl

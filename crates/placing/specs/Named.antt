@@ -49,15 +49,18 @@ medium = window (by 6010 4006) 3 5
 unfoldable pub samePlace : Point → Point → Bool
 samePlace a b = eqb (a .x) (b .x) && eqb (a .y) (b .y)
 
--- whether a picture's size is given, and is this
-unfoldable pub givenAs : OptionalSize → Size → Bool
-givenAs Missing size = false
-givenAs (Given picture) size = sameSize picture size
+-- whether a picture's size is this; of one that is missing, what `missing` says
+unfoldable pub pictureIs : OptionalSize → Size → Bool → Bool
+pictureIs Missing size missing = missing
+pictureIs (Given picture) size missing = sameSize picture size
+
+-- the picture's size is given, and is this
+abbrev pub givenAs : OptionalSize → Size → Bool
+givenAs picture size = pictureIs picture size false
 
 -- "picture size none or" this
-unfoldable pub noneOr : OptionalSize → Size → Bool
-noneOr Missing size = true
-noneOr (Given picture) size = sameSize picture size
+abbrev pub noneOr : OptionalSize → Size → Bool
+noneOr picture size = pictureIs picture size true
 
 -- "Crop with cropped ≠ original: mode 2, origin (1040, 696), picture size none or 3936 by 2624, else 6; that size is the frame."
 unfoldable pub onCrop : CropHiSpeed → OptionalSize → Outcome Window

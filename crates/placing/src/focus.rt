@@ -6,7 +6,7 @@ use reading::geometry::Point;
 use reading::geometry::Size;
 ghost use mathlib.Core.Path.{_≡_};
 ghost use lib.ListN.{replicate};
-ghost use Rattle.placing.specs.Load.{noPoint, refusedBy, sameSize};
+ghost use Rattle.placing.specs.Load.{noPoint, originNumber, refusalNumber, refusedBy, sameSize};
 
 // Where points come from: the record's own position, or the table of the body's points.
 pub enum FocusOrigin {
@@ -82,4 +82,28 @@ pub fn same_size(a: Size, b: Size) -> bool
     ensures { λ r. ⌜ r ≡ sameSize a b ⌝ }
 {
     a.width == b.width && a.height == b.height
+}
+
+// 01's number for where points come from.
+pub fn origin_number(origin: FocusOrigin) -> u32
+    ensures { λ r. ⌜ r ≡ originNumber origin ⌝ }
+{
+    match origin {
+        FocusOrigin::Recorded => 1,
+        FocusOrigin::Table => 2,
+    }
+}
+
+// 01's number for why a load gives no points.
+pub fn refusal_number(why: Refusal) -> u32
+    ensures { λ r. ⌜ r ≡ refusalNumber why ⌝ }
+{
+    match why {
+        Refusal::Unreadable => 1,
+        Refusal::Missing => 2,
+        Refusal::Manual => 3,
+        Refusal::Unusable => 4,
+        Refusal::Unplaced => 5,
+        Refusal::Unnamed => 6,
+    }
 }

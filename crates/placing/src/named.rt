@@ -17,7 +17,7 @@ ghost use mathlib.Core.Path.{_≡_};
 ghost use Prim.Native.Nat.{_≤_, _<_};
 ghost use lib.ListN.{take};
 ghost use Rattle.placing.specs.Load.{laidOut};
-ghost use Rattle.placing.specs.Named.{samePlace, givenAs, noneOr, onCrop, uncropped, frameMeans, placedFrame, marked, isNamed, fitsWindow, lessOrigin, isListed, ifListed, listed, listingOf, indexOf, placedIn, namedOutcome};
+ghost use Rattle.placing.specs.Named.{samePlace, pictureIs, onCrop, uncropped, frameMeans, placedFrame, marked, isNamed, fitsWindow, lessOrigin, isListed, ifListed, listed, listingOf, indexOf, placedIn, namedOutcome};
 ghost use Rattle.reading.specs.Outcome.{accepted};
 
 // A part of the table's frame: the frame that points are placed in, and where it starts.
@@ -74,23 +74,13 @@ fn same_place(a: Point, b: Point) -> bool
     a.x == b.x && a.y == b.y
 }
 
-// Whether the picture's size is given, and is `size`.
-fn given_as(picture: OptionalSize, size: Size) -> bool
-    ensures { λ r. ⌜ r ≡ givenAs picture size ⌝ }
+// Whether the picture's size is `size`; of a size that is missing, `missing`.
+fn picture_is(picture: OptionalSize, size: Size, missing: bool) -> bool
+    ensures { λ r. ⌜ r ≡ pictureIs picture size missing ⌝ }
 {
     match picture {
         OptionalSize::Given(given) => crate::focus::same_size(given, size),
-        OptionalSize::Missing => false,
-    }
-}
-
-// Whether the picture's size is missing, or is `size`.
-fn none_or(picture: OptionalSize, size: Size) -> bool
-    ensures { λ r. ⌜ r ≡ noneOr picture size ⌝ }
-{
-    match picture {
-        OptionalSize::Given(given) => crate::focus::same_size(given, size),
-        OptionalSize::Missing => true,
+        OptionalSize::Missing => missing,
     }
 }
 
@@ -108,7 +98,7 @@ fn on_crop(crop: CropHiSpeed, picture: OptionalSize) -> PlacedFrame
         return PlacedFrame::Unconfirmed;
     }
     let frame = window.frame;
-    if !none_or(picture, frame) {
+    if !picture_is(picture, frame, true) {
         return PlacedFrame::Unconfirmed;
     }
     PlacedFrame::Confirmed(window)
@@ -118,7 +108,7 @@ fn on_crop(crop: CropHiSpeed, picture: OptionalSize) -> PlacedFrame
 fn uncropped_window(picture: OptionalSize) -> Window
     ensures { λ r. ⌜ r ≡ uncropped picture ⌝ }
 {
-    if given_as(picture, MEDIUM_JPEG) {
+    if picture_is(picture, MEDIUM_JPEG, false) {
         return MEDIUM;
     }
     WHOLE

@@ -5,62 +5,12 @@ use fitting::focus::FocusPoint;
 use libc::STDIN_FILENO;
 use libc::STDOUT_FILENO;
 use placing::focus::FocusAnswer;
-use placing::focus::FocusOrigin;
 use placing::focus::FocusPoints;
-use placing::focus::Refusal;
-use reading::focus::FocusAreaMode;
-use reading::focus::InFocus;
 use reading::geometry::OptionalSize;
 use reading::geometry::Size;
 use reading::io::ByteOrder;
 ghost use mathlib.Core.Path.{_≡_};
 ghost use lib.ListN.{length};
-ghost use Rattle.reading.specs.Focus.{inFocusNumber, modeNumber};
-ghost use Rattle.placing.specs.Load.{refusalNumber, originNumber};
-
-fn in_focus_number(f: InFocus) -> u32
-    ensures { λ r. ⌜ r ≡ inFocusNumber f ⌝ }
-{
-    match f {
-        InFocus::Unrecorded => 0,
-        InFocus::No => 1,
-        InFocus::Yes => 2,
-    }
-}
-
-fn mode_number(m: FocusAreaMode) -> u32
-    ensures { λ r. ⌜ r ≡ modeNumber m ⌝ }
-{
-    match m {
-        FocusAreaMode::Unnamed => 0,
-        FocusAreaMode::Single => 1,
-        FocusAreaMode::Dynamic => 2,
-        FocusAreaMode::Auto => 3,
-        FocusAreaMode::Tracking => 4,
-    }
-}
-
-fn origin_number(o: FocusOrigin) -> u32
-    ensures { λ r. ⌜ r ≡ originNumber o ⌝ }
-{
-    match o {
-        FocusOrigin::Recorded => 1,
-        FocusOrigin::Table => 2,
-    }
-}
-
-fn refusal_number(why: Refusal) -> u32
-    ensures { λ r. ⌜ r ≡ refusalNumber why ⌝ }
-{
-    match why {
-        Refusal::Unreadable => 1,
-        Refusal::Missing => 2,
-        Refusal::Manual => 3,
-        Refusal::Unusable => 4,
-        Refusal::Unplaced => 5,
-        Refusal::Unnamed => 6,
-    }
-}
 
 fn text(s: &[u8]) {
     io::write_all(STDOUT_FILENO, s);
@@ -81,7 +31,7 @@ fn print_point(p: FocusPoint) {
     number(b" ", center.y);
     number(b" ", size.width);
     number(b" ", size.height);
-    number(b" ", in_focus_number(in_focus));
+    number(b" ", reading::focus::in_focus_number(in_focus));
 }
 
 fn print_points(points: [FocusPoint; 39], count: usize) {
@@ -104,8 +54,8 @@ fn print_placed(f: FocusPoints) {
     number(b" ", frame.height);
     number(b" points ", (f.count % 64) as u32);
     number(b" primary ", (f.primary % 64) as u32);
-    number(b" mode ", mode_number(mode));
-    number(b" origin ", origin_number(origin));
+    number(b" mode ", reading::focus::mode_number(mode));
+    number(b" origin ", placing::focus::origin_number(origin));
     print_points(points, f.count);
 }
 
@@ -136,7 +86,7 @@ fn answer(load: &[u8]) {
     let f = placing::nikon::focus(block, raw, picture, model);
     let how = f.answer;
     match how {
-        FocusAnswer::Refused(why) => number(b"no ", refusal_number(why)),
+        FocusAnswer::Refused(why) => number(b"no ", placing::focus::refusal_number(why)),
         FocusAnswer::Placed => print_placed(f),
     }
     text(b"\n");

@@ -6,7 +6,7 @@ use mathlib.Core.List.{List, [], _∷_, _++_}
 use lib.ListN.{length, take, drop, replicate}
 use lib.Dec.{eqb}
 use Rattle.reading.specs.Outcome.{Outcome, refused, accepted}
-use Rattle.reading.specs.Block.{findOf, isKept}
+use Rattle.reading.specs.Block.{blockOf, findOf, isKept}
 use Rattle.reading.specs.declared.io.ByteOrder.{ByteOrder}
 use Rattle.reading.specs.declared.nikon.ContentsAnswer.{ContentsAnswer}
 use Rattle.reading.specs.declared.nikon.ContentsAnswer.the-variants.{Unreadable, Listed}
@@ -48,3 +48,11 @@ pub record Holds (wanted : List ℕ) (count : ℕ) (places : List ℕ) : Type 0 
 unfoldable pub ContentsOf : Outcome ByteOrder → List ℕ → TagList → Type 0
 ContentsOf (refused n) s r = Holds [] (r .count) (r .tags)
 ContentsOf (accepted o) s r = Holds (keptTags o s) (r .count) (r .tags)
+
+-- the one order that this code gives, among those that ContentsOf leaves open: that of the tags' numbers
+unfoldable pub contentsIn : Outcome ByteOrder → List ℕ → TagList
+contentsIn (refused n) s = record { answer = Unreadable; count = 0; tags = replicate 4 0 }
+contentsIn (accepted o) s = listed (keptTags o s)
+
+abbrev pub contentsOf : List ℕ → TagList
+contentsOf s = contentsIn (blockOf s) s

@@ -15,7 +15,7 @@ ghost use Rattle.reading.specs.Numbers.{shortsOf};
 ghost use Rattle.reading.specs.Block.{blockOf};
 ghost use Rattle.reading.specs.Values.{upToZero, trimStart, trimEnd, isManual, manualFocusOf, numberAt, cropHiSpeedOf, isRectangle, insideRaw, cropAreaOf};
 ghost use Rattle.reading.specs.Record.{versions, noVersion, layouts, noLayout, layoutOf, areaModeOf, inFocusOf, maskOf, namedOf, sizeAt, recordIn, recordMeans, recordOf, afInfo2Of};
-ghost use Rattle.reading.specs.Contents.{contentsNumber, keptTags, listed, ContentsOf};
+ghost use Rattle.reading.specs.Contents.{contentsNumber, keptTags, listed, contentsOf, ContentsOf};
 
 // FocusMode: text.
 pub const FOCUS_MODE: u16 = 0x0007;
@@ -583,7 +583,7 @@ fn kept_tags(block: &[u8], order: ByteOrder) -> TagList
 
 // Which of the four tags have a kept entry. Their order is open.
 pub fn contents(block: &[u8]) -> TagList
-    ensures { λ r. ⌜ (contentsNumber (r .answer) ≡ numberOf (blockOf (now (block .entry)))) × ContentsOf (blockOf (now (block .entry))) (now (block .entry)) r ⌝ }
+    ensures { λ r. ⌜ (contentsNumber (r .answer) ≡ numberOf (blockOf (now (block .entry)))) × ContentsOf (blockOf (now (block .entry))) (now (block .entry)) r × (r ≡ contentsOf (now (block .entry))) ⌝ }
 {
     match crate::ifd::parse_block(block) {
         Block::Readable(order) => kept_tags(block, order),

@@ -2,8 +2,6 @@
 // A line that starts with '#' is printed as it is. No contract can say what is printed: that is held to `stdout`.
 use libc::STDIN_FILENO;
 use libc::STDOUT_FILENO;
-use reading::focus::FocusAreaMode;
-use reading::focus::InFocus;
 use reading::geometry::OptionalSize;
 use reading::geometry::Size;
 use reading::ifd::Block;
@@ -19,7 +17,6 @@ ghost use Prim.Native.Nat.{_<_, _≤_, min};
 ghost use mathlib.Core.Path.{_≡_};
 ghost use lib.ListN.{length};
 ghost use Rattle.io.specs.Counts.{Counts};
-ghost use Rattle.reading.specs.Focus.{inFocusNumber, modeNumber};
 
 // ---- Lines of hexadecimal. That the bytes are right is held to `stdout`.
 
@@ -151,28 +148,6 @@ fn crop_areas(block: &[u8], order: ByteOrder) {
     crop_area(block, order, OptionalSize::Missing);
 }
 
-fn in_focus_number(in_focus: InFocus) -> u64
-    ensures { λ r. ⌜ r ≡ inFocusNumber in_focus ⌝ }
-{
-    match in_focus {
-        InFocus::Unrecorded => 0,
-        InFocus::No => 1,
-        InFocus::Yes => 2,
-    }
-}
-
-fn mode_number(mode: FocusAreaMode) -> u64
-    ensures { λ r. ⌜ r ≡ modeNumber mode ⌝ }
-{
-    match mode {
-        FocusAreaMode::Unnamed => 0,
-        FocusAreaMode::Single => 1,
-        FocusAreaMode::Dynamic => 2,
-        FocusAreaMode::Auto => 3,
-        FocusAreaMode::Tracking => 4,
-    }
-}
-
 fn names(named: NamedPoints) {
     match named {
         NamedPoints::Named {
@@ -193,9 +168,9 @@ fn focus_record(r: FocusRecord) {
     size(b" center ", r.center.x, r.center.y);
     size(b" area ", r.area.width, r.area.height);
     let in_focus = r.in_focus;
-    number(b" focus ", in_focus_number(in_focus));
+    number(b" focus ", reading::focus::in_focus_number(in_focus) as u64);
     let mode = r.area_mode;
-    number(b" mode ", mode_number(mode));
+    number(b" mode ", reading::focus::mode_number(mode) as u64);
     let named = r.named;
     names(named);
 }

@@ -11,7 +11,7 @@ use reading::geometry::Size;
 ghost use mathlib.Core.Path.{_≡_};
 ghost use Prim.Native.Nat.{_<_, _≤_};
 ghost use Rattle.placing.specs.Focus.{focusOf};
-ghost use Rattle.sheet.specs.Sheet.{edited, freshSheet, loadSheet, usable, placedAt, addEdit, ifOpen, turnSheet, mirrorSheet, cutSheet, backSheet};
+ghost use Rattle.sheet.specs.Sheet.{editNumber, loadNumber, edited, freshSheet, loadSheet, usable, placedAt, addEdit, ifOpen, turnSheet, mirrorSheet, cutSheet, backSheet};
 
 pub mod edit; // an edit, and one point under edits
 pub mod list; // the listing of the points where they are now, and in another frame
@@ -53,6 +53,30 @@ pub struct Edited {
 pub struct Loaded {
     pub answer: FocusAnswer,
     pub sheet: Sheet,
+}
+
+// 01's number for how cut, turn, mirror and back end, 0 for accepted.
+pub fn edit_number(answer: EditAnswer) -> u32
+    ensures { λ r. ⌜ r ≡ editNumber answer ⌝ }
+{
+    match answer {
+        EditAnswer::Accepted => 0,
+        EditAnswer::Empty => 7,
+        EditAnswer::Full => 8,
+        EditAnswer::BadCut => 9,
+        EditAnswer::DropsPrimary => 10,
+        EditAnswer::NothingStands => 11,
+    }
+}
+
+// 01's number for how a load ends, 0 for accepted.
+pub fn load_number(answer: FocusAnswer) -> u32
+    ensures { λ r. ⌜ r ≡ loadNumber answer ⌝ }
+{
+    match answer {
+        FocusAnswer::Placed => 0,
+        FocusAnswer::Refused(why) => placing::focus::refusal_number(why),
+    }
 }
 
 impl Sheet {

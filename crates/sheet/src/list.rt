@@ -3,15 +3,13 @@ use crate::Sheet;
 use fitting::focus::FocusPoint;
 use placing::focus::FocusOrigin;
 use reading::focus::FocusAreaMode;
-use reading::focus::InFocus;
 use reading::geometry::Size;
 ghost use mathlib.Core.Path.{_≡_};
 ghost use mathlib.Core.List.{[], _++_};
 ghost use Prim.Native.Nat.{_+_, _*_, _<_, _≤_};
 ghost use lib.ListN.{length, take, drop};
 ghost use lib.Seq.{sets};
-ghost use Rattle.reading.specs.Focus.{inFocusNumber};
-ghost use Rattle.sheet.specs.Listing.{six, flat, over, rowOf, listing, presentOf, scaledAll, listAnswer, listBuffer, fitAnswer, fitBuffer};
+ghost use Rattle.sheet.specs.Listing.{listNumber, six, flat, over, rowOf, listing, presentOf, scaledAll, listAnswer, listBuffer, fitAnswer, fitBuffer};
 
 // What a listing says beside its points: their frame and number, and the primary's index among them.
 pub struct Listing {
@@ -44,14 +42,15 @@ pub struct Present {
     pub index: usize,
 }
 
-// 01's number for what a point says of its focus.
-pub fn in_focus_number(in_focus: InFocus) -> u32
-    ensures { λ r. ⌜ r ≡ inFocusNumber in_focus ⌝ }
+// 01's number for how list and fit end, 0 for listed.
+pub fn list_number(answer: ListAnswer) -> u32
+    ensures { λ r. ⌜ r ≡ listNumber answer ⌝ }
 {
-    match in_focus {
-        InFocus::Unrecorded => 0,
-        InFocus::No => 1,
-        InFocus::Yes => 2,
+    match answer {
+        ListAnswer::Empty => 7,
+        ListAnswer::ZeroBox => 12,
+        ListAnswer::Short => 13,
+        ListAnswer::Listed(_) => 0,
     }
 }
 
@@ -68,7 +67,7 @@ fn put_point(out: &mut [u32], at: usize, point: FocusPoint)
     out[at + 2] = center.y;
     out[at + 3] = size.width;
     out[at + 4] = size.height;
-    out[at + 5] = in_focus_number(in_focus);
+    out[at + 5] = reading::focus::in_focus_number(in_focus);
 }
 
 // Writes the first n points at the buffer's front.

@@ -5,14 +5,9 @@
 // big-endian. Place i of a buffer holds i + 1 before a call. No contract can say what is printed: that is held to `stdout`.
 use libc::STDIN_FILENO;
 use libc::STDOUT_FILENO;
-use placing::focus::FocusAnswer;
-use placing::focus::FocusOrigin;
-use placing::focus::Refusal;
-use reading::focus::FocusAreaMode;
 use reading::geometry::OptionalSize;
 use reading::geometry::Size;
 use reading::io::ByteOrder;
-use sheet::EditAnswer;
 use sheet::Edited;
 use sheet::Loaded;
 use sheet::Sheet;
@@ -21,56 +16,6 @@ use sheet::list::Listing;
 ghost use mathlib.Core.Path.{_≡_};
 ghost use Prim.Native.Nat.{_≤_};
 ghost use lib.ListN.{length};
-ghost use Rattle.reading.specs.Focus.{modeNumber};
-ghost use Rattle.placing.specs.Load.{refusalNumber, originNumber};
-ghost use Rattle.sheet.specs.Sheet.{editNumber};
-
-fn mode_number(m: FocusAreaMode) -> u32
-    ensures { λ r. ⌜ r ≡ modeNumber m ⌝ }
-{
-    match m {
-        FocusAreaMode::Unnamed => 0,
-        FocusAreaMode::Single => 1,
-        FocusAreaMode::Dynamic => 2,
-        FocusAreaMode::Auto => 3,
-        FocusAreaMode::Tracking => 4,
-    }
-}
-
-fn origin_number(o: FocusOrigin) -> u32
-    ensures { λ r. ⌜ r ≡ originNumber o ⌝ }
-{
-    match o {
-        FocusOrigin::Recorded => 1,
-        FocusOrigin::Table => 2,
-    }
-}
-
-fn refusal_number(why: Refusal) -> u32
-    ensures { λ r. ⌜ r ≡ refusalNumber why ⌝ }
-{
-    match why {
-        Refusal::Unreadable => 1,
-        Refusal::Missing => 2,
-        Refusal::Manual => 3,
-        Refusal::Unusable => 4,
-        Refusal::Unplaced => 5,
-        Refusal::Unnamed => 6,
-    }
-}
-
-fn edit_number(a: EditAnswer) -> u32
-    ensures { λ r. ⌜ r ≡ editNumber a ⌝ }
-{
-    match a {
-        EditAnswer::Accepted => 0,
-        EditAnswer::Empty => 7,
-        EditAnswer::Full => 8,
-        EditAnswer::BadCut => 9,
-        EditAnswer::DropsPrimary => 10,
-        EditAnswer::NothingStands => 11,
-    }
-}
 
 fn text(s: &[u8]) {
     io::write_all(STDOUT_FILENO, s);
@@ -94,17 +39,14 @@ fn print_number(n: u32) {
 
 fn after_edit(r: Edited) -> Sheet {
     let answer = r.answer;
-    print_number(edit_number(answer));
+    print_number(sheet::edit_number(answer));
     let s = r.sheet;
     s
 }
 
 fn after_load(r: Loaded) -> Sheet {
     let answer = r.answer;
-    match answer {
-        FocusAnswer::Placed => print_number(0),
-        FocusAnswer::Refused(why) => print_number(refusal_number(why)),
-    }
+    print_number(sheet::load_number(answer));
     let s = r.sheet;
     s
 }
@@ -117,8 +59,8 @@ fn print_head(l: Listing) {
     number(b" ", frame.height);
     number(b" points ", (l.count % 64) as u32);
     number(b" primary ", (l.index % 64) as u32);
-    number(b" mode ", mode_number(mode));
-    number(b" origin ", origin_number(origin));
+    number(b" mode ", reading::focus::mode_number(mode));
+    number(b" origin ", placing::focus::origin_number(origin));
 }
 
 fn print_list(a: ListAnswer) {

@@ -43,23 +43,23 @@ returns-2 c =
     elsewhere (a .crop) (a .picture) (c .before .before .before .before .if1 .left) _ (c .before .same-place .ensures)
     (c .if2 .taken)
 
-none-or-requires : tie.Need-none-or-requires
-none-or-requires c κs = search needs
+picture-is-requires : tie.Need-picture-is-requires
+picture-is-requires c κs = search needs
 
 returns-3 : tie.Need-returns-3
 returns-3 c =
     let a = (c .before .before .before .before .before .before .before .before .before .args) in
     other-size (a .crop) (a .picture) (c .before .before .before .before .before .before .before .if1 .left) _
     (c .before .before .before .before .same-place .ensures) (c .before .before .before .if2 .left) _
-    (c .before .none-or .ensures) (c .if3 .taken)
+    (c .before .picture-is .ensures) (c .if3 .taken)
 
 returns-4 : tie.Need-returns-4
 returns-4 c =
     let a = (c .before .before .before .before .before .before .before .before .before .args) in
     confirmed (a .crop) (a .picture) (c .before .before .before .before .before .before .before .if1 .left) _
     (c .before .before .before .before .same-place .ensures) (c .before .before .before .if2 .left) _
-    (c .before .none-or .ensures) (c .if3 .left)
+    (c .before .picture-is .ensures) (c .if3 .left)
 
 pub on-crop-spec : {M : Type 1} → statement M
 on-crop-spec =
-    tie.close (tie.spec returns same-place-requires returns-2 none-or-requires returns-3 returns-4)
+    tie.close (tie.spec returns same-place-requires returns-2 picture-is-requires returns-3 returns-4)

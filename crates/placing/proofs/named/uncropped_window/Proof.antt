@@ -17,14 +17,14 @@ module _ (picture : OptionalSize) (b : Bool) (e : b ≡ givenAs picture (by 4512
   unfolding uncropped
   is-whole h = rw (← e, h)
 
-given-as-requires : tie.Need-given-as-requires
-given-as-requires c κs = search needs
+picture-is-requires : tie.Need-picture-is-requires
+picture-is-requires c κs = search needs
 
 returns : tie.Need-returns
-returns c = is-medium (c .before .before .args .picture) _ (c .before .given-as .ensures) (c .if1 .taken)
+returns c = is-medium (c .before .before .args .picture) _ (c .before .picture-is .ensures) (c .if1 .taken)
 
 returns-2 : tie.Need-returns-2
-returns-2 c = is-whole (c .before .before .args .picture) _ (c .before .given-as .ensures) (c .if1 .left)
+returns-2 c = is-whole (c .before .before .args .picture) _ (c .before .picture-is .ensures) (c .if1 .left)
 
 pub uncropped-window-spec : {M : Type 1} → statement M
-uncropped-window-spec = tie.close (tie.spec given-as-requires returns returns-2)
+uncropped-window-spec = tie.close (tie.spec picture-is-requires returns returns-2)

@@ -1,4 +1,4 @@
--- `nikon::contents`: what is collected holds each kept tag once, and then zeros. Assumes nothing.
+-- `nikon::contents`: what is collected holds each kept tag once, and then zeros, whatever order it is in. Assumes nothing.
 use mathlib.Core.Path.{_≡_, refl, _∙_, sym, ap}
 use mathlib.Core.List.{List, [], _∷_, _++_}
 use Prim.Native.Nat.{ℕ, _-_}
@@ -7,7 +7,7 @@ use lib.Seq.{take-append-seam, drop-append-seam}
 use denote.Ref.{now}
 use Rattle.reading.specs.Outcome.{Outcome, refused, accepted, numberOf}
 use Rattle.reading.specs.Block.{blockOf}
-use Rattle.reading.specs.Contents.{contentsNumber, Holds, ContentsOf, keptTags, listed, times}
+use Rattle.reading.specs.Contents.{contentsNumber, Holds, ContentsOf, contentsIn, keptTags, listed, times}
 use Rattle.reading.specs.declared.io.ByteOrder.{ByteOrder}
 use Rattle.reading.specs.declared.nikon.TagList.{TagList}
 use borrow.Author.Needs.{needs}
@@ -23,14 +23,14 @@ holds ts =
     }
 
 read : (s : List ℕ) (o : ByteOrder) (b : Outcome ByteOrder) (r : TagList) → accepted o ≡ b → r ≡ listed (keptTags o s) →
-    (contentsNumber (r .answer) ≡ numberOf b) × ContentsOf b s r
-unfolding ContentsOf
-read s o b r e er = rw (← e, er) (refl, holds (keptTags o s))
+    (contentsNumber (r .answer) ≡ numberOf b) × ContentsOf b s r × (r ≡ contentsIn b s)
+unfolding ContentsOf contentsIn
+read s o b r e er = rw (← e, er) (refl, holds (keptTags o s), refl)
 
-unread : (s : List ℕ) (b : Outcome ByteOrder) (r : TagList) → refused 1 ≡ b → contentsNumber (r .answer) ≡ 1 → r .count ≡ 0 → r .tags ≡ replicate 4 0 →
-    (contentsNumber (r .answer) ≡ numberOf b) × ContentsOf b s r
-unfolding ContentsOf
-unread s b r e ea ec et = rw (← e) (ea, rw (ec, et) (holds []))
+unread : (s : List ℕ) (b : Outcome ByteOrder) (r : TagList) → refused 1 ≡ b → r ≡ contentsIn (refused 1) s →
+    (contentsNumber (r .answer) ≡ numberOf b) × ContentsOf b s r × (r ≡ contentsIn b s)
+unfolding ContentsOf contentsIn
+unread s b r e er = rw (← e, er) (refl, holds [], refl)
 
 parse-block-requires : tie.Need-parse-block-requires
 parse-block-requires c κs = search needs
@@ -48,7 +48,8 @@ returns : tie.Need-returns
 returns c = read (now (c .before .before .before .before .before .before .args .block)) _ (blockOf (now (c .before .before .before .before .before .before .args .block))) _ (rw (c .before .before .order .given .1) at (c .before .before .before .before .parse-block .ensures)) (c .kept-tags .ensures)
 
 returns-2 : tie.Need-returns-2
-returns-2 c = unread (now (c .before .before .before .before .args .block)) (blockOf (now (c .before .before .before .before .args .block))) _ (rw (c .enum-told .given .1) at (c .before .before .parse-block .ensures)) refl refl refl
+unfolding contentsIn
+returns-2 c = unread (now (c .before .before .before .before .args .block)) (blockOf (now (c .before .before .before .before .args .block))) _ (rw (c .enum-told .given .1) at (c .before .before .parse-block .ensures)) refl
 
 pub contents-spec : {M : Type 1} → statement M
 contents-spec =

@@ -1,8 +1,8 @@
--- `origin_number`: by cases. Assumes nothing.
+-- `focus::origin_number`: by cases. Assumes nothing.
 use Rattle.placing.specs.Load.{originNumber}
 use borrow.Author.Needs.{needs}
-use Rattle.sheet_test.proofs.origin_number.Statement.{statement}
-use Rattle.sheet_test.proofs.origin_number.Tie as tie
+use Rattle.placing.proofs.focus.origin_number.Statement.{statement}
+use Rattle.placing.proofs.focus.origin_number.Tie as tie
 
 enum-told : tie.Need-enum-told
 enum-told c = search needs

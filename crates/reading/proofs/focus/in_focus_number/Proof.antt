@@ -1,8 +1,8 @@
--- `in_focus_number` is `inFocusNumber`: each case of the match is the definition's clause for it. Assumes nothing.
+-- `focus::in_focus_number`: inFocusNumber by cases. Assumes nothing.
 use Rattle.reading.specs.Focus.{inFocusNumber}
 use borrow.Author.Needs.{needs}
-use Rattle.reading_test.proofs.in_focus_number.Statement.{statement}
-use Rattle.reading_test.proofs.in_focus_number.Tie as tie
+use Rattle.reading.proofs.focus.in_focus_number.Statement.{statement}
+use Rattle.reading.proofs.focus.in_focus_number.Tie as tie
 
 enum-told : tie.Need-enum-told
 enum-told c = search needs

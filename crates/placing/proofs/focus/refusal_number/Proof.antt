@@ -1,8 +1,8 @@
--- `refusal_number`: by cases. Assumes nothing.
+-- `focus::refusal_number`: by cases. Assumes nothing.
 use Rattle.placing.specs.Load.{refusalNumber}
 use borrow.Author.Needs.{needs}
-use Rattle.placing_test.proofs.refusal_number.Statement.{statement}
-use Rattle.placing_test.proofs.refusal_number.Tie as tie
+use Rattle.placing.proofs.focus.refusal_number.Statement.{statement}
+use Rattle.placing.proofs.focus.refusal_number.Tie as tie
 
 enum-told : tie.Need-enum-told
 enum-told c = search needs
