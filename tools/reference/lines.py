@@ -286,14 +286,14 @@ def longest(chance, good):
 
 def overlong(chance, good):
     full = longest(chance, good)
-    way = chance.randrange(6)
+    way = chance.randrange(7)
     if way == 0:
         return full + b"0"
     if way == 1:
         return full + chance.choice([b"00", script.TURN, b"\r", b" ", full])
-    if way == 2:
-        return check(bytes.fromhex(full.decode())[:-1] + chance.randbytes(chance.choice([1, 2, 500])))
-    if way == 3:
+    if way < 4:
+        return check(bytes.fromhex(full.decode())[:-1] + chance.randbytes(chance.choice([1, 1, 1, 2, 500])))
+    if way == 4:
         return good + b" " * (4097 - len(good))
     length = chance.choice([4097, 4097, 4098, 4099, 4100, 5000, 8191, 8192, 8193, 12288])
     if chance.random() < 0.02:
@@ -305,7 +305,7 @@ def malformed(chance, good, given):
     """A malformed line of any kind, made from a good line or a load."""
     way = chance.choices(
         ["empty", "odd", "character", "return", "check", "code", "length", "flags", "missing", "one", "overlong", "longest"],
-        [8, 10, 14, 6, 12, 8, 14, 10, 10, 5, 4, 3])[0]
+        [8, 10, 14, 6, 12, 8, 14, 10, 10, 5, 7, 4])[0]
     if way == "empty":
         return b""
     if way == "odd":
