@@ -18,8 +18,7 @@ sys.dont_write_bytecode = True
 import readers
 import reference
 import script
-
-ROOT = os.path.join(os.path.dirname(os.path.abspath(__file__)), "..", "..")
+import stored
 
 
 def at(length, places):
@@ -206,28 +205,8 @@ def files():
             yield os.path.join("crates", "focusdesk", "stdout"), printed
 
 
-def write_or_check(named, arguments):
-    """Writes (path, bytes) below the repository's root; with --check, compares."""
-    if arguments not in ([], ["--check"]):
-        return None
-    unlike = 0
-    for path, data in named:
-        full = os.path.join(ROOT, path)
-        if not arguments:
-            os.makedirs(os.path.dirname(full), exist_ok=True)
-            with open(full, "wb") as file:
-                file.write(data)
-        else:
-            with open(full, "rb") as file:
-                if file.read() != data:
-                    print("%s: not what would be written" % path)
-                    unlike += 1
-        print("%s: %d lines, %d bytes" % (path, data.count(b"\n") + (data[-1:] not in (b"\n", b"")), len(data)))
-    return 1 if unlike else 0
-
-
 def main(arguments):
-    status = write_or_check(files(), arguments)
+    status = stored.write_or_check(files(), arguments)
     if status is None:
         print(__doc__.strip(), file=sys.stderr)
         return 2

@@ -161,7 +161,7 @@ def changed(chance, given):
 def a_load(chance, path, wanted):
     """A load's arguments with a wanted answer: accepted, or `no` and a number."""
     found = pools(path)
-    accepted = [name for name in ("origin 1", "origin 2", "many", "many") if name in found]
+    accepted = [name for name in ("origin 1", "origin 1", "origin 2", "many") if name in found]
     while True:
         of_its_own = wanted in found and chance.random() < 0.6
         given = chance.choice(found[wanted if of_its_own else chance.choice(accepted)])
@@ -185,7 +185,7 @@ def load_line(chance, given, most=reference.MAX_LINE):
 
 
 def a_cut(chance, book):
-    if book.held is None or chance.random() < 0.35:
+    if book.held is None or chance.random() < 0.2:
         return stored.a_cut(chance, book)
     width, height = book.frame()
     listed = book.listed()
@@ -217,8 +217,8 @@ def around(chance, points, frame):
         halves = [(point[3 + axis] + 1) // 2 for point in points]
         low = min(point[1 + axis] - half for point, half in zip(points, halves))
         high = max(point[1 + axis] + half for point, half in zip(points, halves))
-        low -= chance.choice([0, 0, 0, -1, 1, chance.randrange(300)])
-        high += chance.choice([0, 0, 0, -1, 1, chance.randrange(300)])
+        low -= chance.choice([0, 0, 0, -1, 1, 2, chance.randrange(300), chance.randrange(3000)])
+        high += chance.choice([0, 0, 0, -1, 1, 2, chance.randrange(300), chance.randrange(3000)])
         low, high = max(0, low), min(frame[axis], high)
         edges.append((low, max(0, high - low)))
     return [edges[0][0], edges[1][0], edges[0][1], edges[1][1]]
@@ -405,10 +405,10 @@ class Script:
         self.call("accepted")
         usual = {"refused": 14, "cut": 24, "turn": 8, "mirror": 6, "back": 13, "list": 16, "fit": 12,
                  "contents": 4, "malformed": 14}
-        way = chance.randrange(8)
-        if way < 5:
+        way = chance.randrange(16)
+        if way < 13:
             self.calls(chance.choice([2, 5, 10, 20]), usual)
-        elif way == 5:  # mostly backs: 11
+        elif way < 15:  # mostly backs: 11
             self.calls(chance.choice([3, 8]), usual)
             self.calls(chance.choice([5, 20]), {**usual, "back": 80})
         else:  # up to 64 edits and past them, then some way back

@@ -17,6 +17,7 @@ sys.dont_write_bytecode = True
 import demos
 import reference
 import script
+import stored
 
 BLOCK = demos.named_block("big", 27, 1 << 0 | 1 << 37, (0, 8))
 OTHER = demos.named_block("little", 2, 1 << 1)
@@ -184,7 +185,7 @@ def main(arguments):
             sys.exit("%r...: here %s, the reference %s" % (line[:60], answer, own))
     given = script.text(lines, last_feed=False)
     crate = os.path.join("crates", "focusdesk_lines")
-    status = demos.write_or_check([
+    status = stored.write_or_check([
         (os.path.join(crate, "stdin"), given),
         (os.path.join(crate, "stdout"), reference.run_script(given).encode())], arguments)
     if status is None:

@@ -1,12 +1,13 @@
-"""Material for generated calls: the loads that are stored for the program
-placing_test, and cuts by chance."""
+"""What is stored: the loads of the program placing_test, as material for other
+calls, with cuts by chance; and files that are written or compared."""
 
 import os
 import struct
 
 import reference
 
-CRATES = os.path.join(os.path.dirname(os.path.abspath(__file__)), "..", "..", "crates")
+ROOT = os.path.join(os.path.dirname(os.path.abspath(__file__)), "..", "..")
+CRATES = os.path.join(ROOT, "crates")
 RECORD = 512
 HUGE = [0, 1, 4294967295]
 
@@ -41,3 +42,23 @@ def a_cut(chance, book):
         length = chance.randrange(side - before + 2) if chance.random() < 0.3 else side - before
         sides.append((before, length))
     return [sides[0][0], sides[1][0], sides[0][1], sides[1][1]]
+
+
+def write_or_check(named, arguments):
+    """Writes (path, bytes) below the repository's root; with --check, compares."""
+    if arguments not in ([], ["--check"]):
+        return None
+    unlike = 0
+    for path, data in named:
+        full = os.path.join(ROOT, path)
+        if not arguments:
+            os.makedirs(os.path.dirname(full), exist_ok=True)
+            with open(full, "wb") as file:
+                file.write(data)
+        else:
+            with open(full, "rb") as file:
+                if file.read() != data:
+                    print("%s: not what would be written" % path)
+                    unlike += 1
+        print("%s: %d lines, %d bytes" % (path, data.count(b"\n") + (data[-1:] not in (b"\n", b"")), len(data)))
+    return 1 if unlike else 0
