@@ -7,8 +7,9 @@ good and bad, edits up to and past 64, listings, fits, contents, and malformed
 lines. The same seed gives the same lines. Most calls meet a loaded sheet; at
 the front there is a stretch that leaves it empty. The last feed is missing now
 and then. The loads are those that are stored for placing_test, or those of a
-FILE of load lines (as tools/oracle's `loads` prints them), as they are and
-changed: other sizes, models, named points and positions, damaged entries.
+FILE of load lines (as tools/oracle's `loads` prints them), and the blocks of
+readers.py; as they are and changed: other sizes, models, named points and
+positions, damaged entries.
 --tally counts the answers of reference.py.
 """
 
@@ -20,6 +21,7 @@ import sys
 
 sys.dont_write_bytecode = True
 
+import readers
 import reference
 import script
 import stored
@@ -30,6 +32,7 @@ SIZES = [None, None, (0, 0), (0, 7), (5, 0), reference.MEDIUM_PICTURE, reference
 MODELS = [b"", b"NIKON D60", b"NIKON D6000", b"NIKON D600 ", b" NIKON D600", b"NIKON D600\0", b"NIKON D610",
           b"nikon d600", b"NIKON D601", b"N" * 255]
 SIDES = [0, 1, 2, 3, 37, 100, 400, 424, 640, 1000, 4016, 6016, 65535, 65536, MAX_U32 - 1, MAX_U32]
+EDGES = [block for _, block in readers.cases() if len(block) <= 2000]
 
 
 # -------------------------------------------------------------------- loads
@@ -43,6 +46,7 @@ def pools(path):
     else:
         with open(path) as file:
             loads = [load_of(line.rstrip("\n")) for line in file]
+    loads += [(readers.RAW, None, reference.MODEL, block) for _, block in readers.cases()]
     found = collections.defaultdict(list)
     for given in loads:
         if len(given[2]) > 255 or len(given[2]) + len(given[3]) > 2000:
@@ -236,7 +240,7 @@ def a_box(chance, book):
 
 def a_contents(chance, path):
     found = pools(path)
-    block = chance.choice(found[chance.choice(list(found))])[3]
+    block = chance.choice(found[chance.choice(list(found))])[3] if chance.random() < 0.7 else chance.choice(EDGES)
     order = reference.readable(block)
     if order is not None and chance.random() < 0.5:
         block = chance.choice([other_entry, other_entry, spoiled])(chance, block, order)
@@ -321,7 +325,7 @@ def malformed(chance, good, given):
     if way == "check":
         data = bytearray.fromhex(good.decode())
         at = chance.choice([-1, -1, 0, chance.randrange(len(data))])
-        data[at] = (data[at] + chance.choice([1, 255, chance.randrange(1, 256)])) % 256
+        data[at] = (data[at] + chance.choice([1, 255, 128, 1 << chance.randrange(8), chance.randrange(1, 256)])) % 256
         return data.hex().encode()
     if way == "code":
         return script.line(chance.choice([0, 9, 10, 11, 0x30, 0x81, 0x83, 255, chance.randrange(9, 256)]),
