@@ -30,6 +30,9 @@ def at(length, places):
 
 
 def whole_case():
+    # The primary is 1; the mask, 01 80, marks 1 and 16. Turned in the frame of 6016 by 4016, (x, y) is at (4016 - y, x):
+    # 1 at (2009, 3008), 16 at (2009, 3486). The cut is 400 by 400 from (1900, 2900): 1 is at (109, 108), and 16, at
+    # (109, 586), is unlisted.
     yield from zip(
         ["0100000000000000000000000000000000000A4E494B4F4E20443630304D4D002A00000008000100B700070000001E0000001630313030"
          "000003010180000000000000000000000000000000000000000077",
