@@ -267,8 +267,9 @@ def wrong_length(chance, given):
 
 
 def wrong_flags(chance, given):
+    """Flags that are right for the sizes, and others above them."""
     body = script.load_body(*given)
-    return script.line(1, bytes([chance.choice([4, 5, 6, 7, 8, 128, 255, chance.randrange(4, 256)])]), body[1:])
+    return script.line(1, bytes([body[0] + chance.choice([4, 4, 8, 128, 252, 4 * chance.randrange(1, 64)])]), body[1:])
 
 
 def missing_with_a_side(chance, given):
@@ -430,7 +431,7 @@ def make(seed, count, path=None):
     made.empty(min(count, count // 50 + made.chance.randrange(count // 50 + 6)))
     while len(made.lines) < count:
         made.episode()
-    return made.lines[:count], made.chance.random() < 0.7
+    return made.lines[:count], made.chance.random() < 0.5
 
 
 def tally(printed):
