@@ -15,42 +15,13 @@ import sys
 sys.dont_write_bytecode = True
 
 import reference
-
-CRATES = os.path.join(os.path.dirname(os.path.abspath(__file__)), "..", "..", "crates")
-HUGE = [0, 1, 4294967295]
-
-
-def stored_loads():
-    """The loads of placing_test, as (raw, picture, model, block)."""
-    with open(os.path.join(CRATES, "placing_test", "stdin"), "rb") as file:
-        data = file.read()
-    for start in range(0, len(data), 512):
-        record = data[start : start + 512]
-        flags, *sides, model_length, block_length = struct.unpack(">B4IBH", record[:20])
-        model = record[20 : 20 + model_length]
-        block = record[20 + model_length : 20 + model_length + block_length]
-        if len(model) + len(block) <= 491:
-            yield (tuple(sides[:2]) if flags & 1 else None, tuple(sides[2:]) if flags & 2 else None, model, block)
+import stored
 
 
 def load_bytes(raw, picture, model, block):
     flags = (raw is not None) + 2 * (picture is not None)
     return bytes([1]) + struct.pack(">B4IBH", flags, *(raw or (0, 0)), *(picture or (0, 0)),
                                     len(model), len(block)) + model + block
-
-
-def a_cut(chance, book):
-    """Mostly a cut inside the present frame, around some listed point."""
-    if book.held is None or chance.random() < 0.1:
-        return [chance.choice(HUGE + [chance.randrange(7000)]) for _ in range(4)]
-    width, height = book.frame()
-    _, point = chance.choice(book.listed())
-    sides = []
-    for centre, side in ((point[1], width), (point[2], height)):
-        before = chance.randrange(centre + 1) if chance.random() < 0.7 else max(0, centre - chance.randrange(200))
-        length = chance.randrange(side - before + 2) if chance.random() < 0.3 else side - before
-        sides.append((before, length))
-    return [sides[0][0], sides[1][0], sides[0][1], sides[1][1]]
 
 
 def a_buffer(chance, book):
@@ -70,7 +41,7 @@ def one_call(chance, book, loads):
         given = chance.choice(loads)
         return load_bytes(*given), answer_line(book.load(given[3], given[0], given[1], given[2]))
     if kind == "cut":
-        numbers = a_cut(chance, book)
+        numbers = stored.a_cut(chance, book)
         return struct.pack(">B4I", 2, *numbers), answer_line(book.cut(*numbers))
     if kind in ("turn", "mirror", "back"):
         return bytes([{"turn": 3, "mirror": 4, "back": 5}[kind]]), answer_line(getattr(book, kind)())
@@ -84,8 +55,9 @@ def one_call(chance, book, loads):
 
 def main(seed, count):
     chance = random.Random(seed)
-    loads = list(stored_loads())
-    answers = [reference.load(given[3], given[0], given[1], given[2]) for given in loads]
+    # One byte of a record is the call's code.
+    loads = [given for given in stored.loads() if len(given[2]) + len(given[3]) <= 491]
+    answers = [stored.answer(given) for given in loads]
     refused = [given for given, answer in zip(loads, answers) if reference.refused(answer)]
     accepted = [given for given, answer in zip(loads, answers) if not reference.refused(answer)]
     many = [given for given, answer in zip(loads, answers) if not reference.refused(answer) and len(answer.points) > 4]
@@ -100,7 +72,7 @@ def main(seed, count):
     while len(calls) < count - 80:
         add(*one_call(chance, book, loads))
     # A load, 64 turns, the 65th, and a listing behind them.
-    given = max(many, key=lambda g: len(reference.load(g[3], g[0], g[1], g[2]).points))
+    given = max(many, key=lambda given: len(stored.answer(given).points))
     add(load_bytes(*given), answer_line(book.load(given[3], given[0], given[1], given[2])))
     for _ in range(66):
         add(bytes([3]), answer_line(book.turn()))
@@ -108,7 +80,7 @@ def main(seed, count):
         buffer = list(range(1, 241))
         add(bytes([6, 240]), answer_line(book.list(buffer), buffer))
         add(bytes([5]), answer_line(book.back()))
-    crate = os.path.join(CRATES, "sheet_test")
+    crate = os.path.join(stored.CRATES, "sheet_test")
     with open(os.path.join(crate, "stdin"), "wb") as file:
         file.write(b"".join(calls))
     with open(os.path.join(crate, "stdout"), "w") as file:

@@ -386,14 +386,14 @@ def carry(point, frame, row):
 
 
 def move(point, frame, edit):
+    number, x, y, width, height, in_focus = point
     if edit[0] == "turn":
-        return point._replace(x=frame[1] - point.y, y=point.x,
-                              width=point.height, height=point.width)
+        return Point(number, frame[1] - y, x, height, width, in_focus)
     if edit[0] == "mirror":
-        return point._replace(x=frame[0] - point.x)
-    _, left, top, width, height = edit
-    moved = point._replace(x=point.x - left, y=point.y - top)
-    return moved if fits(moved, (width, height)) else None
+        return Point(number, frame[0] - x, y, width, height, in_focus)
+    _, left, top, *frame = edit
+    moved = Point(number, x - left, y - top, width, height, in_focus)
+    return moved if fits(moved, frame) else None
 
 
 class Book:
@@ -494,7 +494,7 @@ def decode(line):
     """A call as (name, arguments...), or None for a malformed line."""
     if not line or len(line) > MAX_LINE or len(line) % 2:
         return None
-    if any(character not in b"0123456789abcdefABCDEF" for character in line):
+    if line.translate(None, delete=b"0123456789abcdefABCDEF"):
         return None
     data = bytes.fromhex(line.decode("ascii"))
     if sum(data) % 256:

@@ -1,0 +1,220 @@
+#!/usr/bin/env python3
+"""demos.py            write the demonstrations
+demos.py --check    say whether the files are what would be written
+
+The demonstrations are demo/NAME.txt, a script of call lines, and demo/NAME.out,
+what `focusdesk` prints for it; the whole case is also what the program's own
+test crate is held to, crates/focusdesk/stdin and stdout. What is printed comes
+from reference.py. Beside each line stands its answer as worked out by hand from
+the specification, with how it comes about, and nothing is written if the
+reference says otherwise.
+"""
+
+import os
+import sys
+
+sys.dont_write_bytecode = True
+
+import readers
+import reference
+import script
+import stored
+
+
+def at(length, places):
+    """A value of this length: bytes at some places, zeros elsewhere."""
+    data = bytearray(length)
+    for place, given in places.items():
+        data[place : place + len(given)] = given
+    return bytes(data)
+
+
+def whole_case():
+    # The primary is 1; the mask, 01 80, marks 1 and 16. Turned in the frame of 6016 by 4016, (x, y) is at (4016 - y, x):
+    # 1 at (2009, 3008), 16 at (2009, 3486). The cut is 400 by 400 from (1900, 2900): 1 is at (109, 108), and 16, at
+    # (109, 586), is unlisted.
+    yield from zip(
+        ["0100000000000000000000000000000000000A4E494B4F4E20443630304D4D002A00000008000100B700070000001E0000001630313030"
+         "000003010180000000000000000000000000000000000000000077",
+         "03FD", "020000076C00000B5400000190000001900A", "06FA"],
+        ["ok", "ok", "ok", "frame 400 400 points 1 primary 0 mode 1 origin 2\n1 109 108 164 164 0"])
+
+
+def named_block(order, primary, mask, mode=(0, 0), crop=None, focus_mode=None):
+    """Version 0100 without a recorded position: layout 3, a primary, a mask."""
+    record = at(30, {0: b"0100", 4: bytes([*mode, 3, primary]), 8: mask.to_bytes(7, "little")})
+    entries = [(0xB7, 7, 30, record)]
+    if crop:
+        entries.insert(0, (0x1B, 3, 7, readers.numbers(order, 2, *crop)))
+    if focus_mode:
+        entries.insert(0, (0x07, 2, len(focus_mode), focus_mode))
+    return readers.block_of(entries, order)
+
+
+def dx_crop():
+    # CropHiSpeed mode 2 at (1040, 696). The mask marks 1 and 38; the primary, 27, is not marked and is listed all the same.
+    # Bytes 4 and 5 are (0, 8): Auto, 3.
+    block = named_block("big", 27, 1 << 0 | 1 << 37, (0, 8), (2, 6080, 4028, 3968, 2636, 1040, 696))
+    yield script.contents(block), "tags 2 27 183"
+    yield script.load(block, None, (3936, 2624)), "ok"
+    # Each centre less (1040, 696), in the frame 3936 by 2624, in the table's order; 27 is the second, so its index is 1.
+    #   1: (3008 - 1040, 2007 - 696) = (1968, 1311)
+    #  27: (4203 - 1040, 2308 - 696) = (3163, 1612)
+    #  38: (1812 - 1040, 1705 - 696) = ( 772, 1009)
+    shown = ("frame 3936 2624 points 3 primary 1 mode 3 origin 2\n"
+             "1 1968 1311 164 164 0\n27 3163 1612 164 164 0\n38 772 1009 164 164 0")
+    yield script.LIST, shown
+    # A turn: (x, y) goes to (2624 - y, x), in the frame 2624 by 3936.
+    yield script.TURN, "ok"
+    yield script.LIST, ("frame 2624 3936 points 3 primary 1 mode 3 origin 2\n"
+                        "1 1313 1968 164 164 0\n27 1012 3163 164 164 0\n38 1615 772 164 164 0")
+    # A mirror: (2624 - x, y). Turned and mirrored, every (x, y) of the load is at (y, x).
+    yield script.MIRROR, "ok"
+    yield script.LIST, ("frame 2624 3936 points 3 primary 1 mode 3 origin 2\n"
+                        "1 1311 1968 164 164 0\n27 1612 3163 164 164 0\n38 1009 772 164 164 0")
+    # A cut from (1200, 1800): 1 at (111, 168) and 27 at (412, 1363) fit 700 by 1500, as 82 <= 111, 82 <= 168, 412 + 82 <= 700
+    # and 1363 + 82 <= 1500. 38 lies to the left of it and is unlisted.
+    yield script.cut(1200, 1800, 700, 1500), "ok"
+    yield script.LIST, "frame 700 1500 points 2 primary 1 mode 3 origin 2\n1 111 168 164 164 0\n27 412 1363 164 164 0"
+    # Three backs take off the cut, the mirror and the turn.
+    for _ in range(3):
+        yield script.BACK, "ok"
+    yield script.LIST, shown
+    # The same crop with a picture of another size cannot be placed, and the sheet is kept; without a size it can.
+    yield script.load(block, None, (4512, 3008)), "no 6"
+    yield script.LIST, shown
+    yield script.load(block), "ok"
+    yield script.LIST, shown
+
+
+def recorded_block(version, order, position, in_focus, mode, entries):
+    """A record with frame, centre and area at their places, behind other entries."""
+    length, frame, centre, area, byte = reference.LAYOUTS[version]
+    pairs = (readers.numbers(order, 2, *pair) for pair in position)
+    places = dict(zip((frame, centre, area), pairs))
+    record = at(length, {0: version, 4: bytes(mode), byte: bytes([in_focus]), **places})
+    return readers.block_of([*entries, (0xB7, 7, length, record)], order)
+
+
+def recorded():
+    # Version 0101, little-endian. CropHiSpeed cuts both sides, and CropArea gives a window of 4000 by 3000 in raw data of 4016
+    # by 3012: the position, recorded in 6000 by 4000, is scaled to 4000 by 3000. Bytes 4 and 5 are (1, 207): Tracking, 4.
+    # In-focus is 1, yes: 2.
+    block = recorded_block(b"0101", "little", ((6000, 4000), (1503, 2001), (401, 300)), 1, (1, 207), [
+        (0x1B, 3, 7, readers.numbers("little", 2, 9, 6016, 4016, 4016, 3012, 1000, 502)),
+        (0x45, 4, 4, readers.numbers("little", 4, 8, 6, 4000, 3000))])
+    yield script.contents(block), "tags 3 27 69 183"
+    yield script.load(block, (4016, 3012), None, b"NIKON D4"), "ok"
+    # x      floor((1503 * 4000 + 3000) / 6000) = floor(1002.5)  = 1002
+    # y      floor((2001 * 3000 + 2000) / 4000) = floor(1501.25) = 1501
+    # width  floor(( 401 * 4000 + 3000) / 6000) = floor(267.83)  =  267
+    # height floor(( 300 * 3000 + 2000) / 4000) = floor(225.5)   =  225
+    shown = "frame 4000 3000 points 1 primary 0 mode 4 origin 1\n0 1002 1501 267 225 2"
+    yield script.LIST, shown
+    # A cut from (700, 1200): (302, 301). ceil(267 / 2) = 134 and ceil(225 / 2) = 113 are left of and above it, and
+    # 302 + 134 <= 800, 301 + 113 <= 600.
+    yield script.cut(700, 1200, 800, 600), "ok"
+    cut = "frame 800 600 points 1 primary 0 mode 4 origin 1\n0 302 301 267 225 2"
+    yield script.LIST, cut
+    # Fitted to a box of 200 by 150, from the present frame of 800 by 600:
+    # x      floor((302 * 200 + 400) / 800) = floor(76)    = 76
+    # y      floor((301 * 150 + 300) / 600) = floor(75.75) = 75
+    # width  floor((267 * 200 + 400) / 800) = floor(67.25) = 67
+    # height floor((225 * 150 + 300) / 600) = floor(56.75) = 56
+    yield script.fit(200, 150), "frame 200 150 points 1 primary 0 mode 4 origin 1\n0 76 75 67 56 2"
+    # To a single pixel: x = floor((302 + 400) / 800) = 0, y = floor((301 + 300) / 600) = 1. Both sides come out as 0 and are
+    # raised to 1; the nearer of centre and frame - centre is 0 on both axes, so nothing is left of the area.
+    yield script.fit(1, 1), "frame 1 1 points 1 primary 0 mode 4 origin 1\n0 0 1 0 0 2"
+    # Fit leaves the sheet alone; back takes the cut off it.
+    yield script.LIST, cut
+    yield script.BACK, "ok"
+    yield script.LIST, shown
+    # Version 0402, big-endian. CropHiSpeed cuts the height alone, and only a picture size says how much: the window's height
+    # is floor((6048 * 3024 + 2688) / 5376) = floor(3402.5) = 3402, so a centre loses floor((4032 - 3402) / 2) = 315 in y.
+    # Bytes 4 and 5 are (0, 5): Dynamic, 2. In-focus is 0, no: 1.
+    block = recorded_block(b"0402", "big", ((6048, 4032), (3024, 1000), (320, 240)), 0, (0, 5), [
+        (0x1B, 3, 7, readers.numbers("big", 2, 12, 6048, 4032, 6048, 3402, 0, 315))])
+    yield script.load(block, None, (5376, 3024), b"NIKON Z 8"), "ok"
+    yield script.LIST, "frame 6048 3402 points 1 primary 0 mode 2 origin 1\n0 3024 685 320 240 1"
+
+
+def refusals():
+    plain = named_block("big", 1, 1)
+    yield script.load(plain[:7]), "no 1"  # a block of seven bytes
+    yield script.load(readers.block_of([(0x07, 2, 5, b"AF-S\0")])), "no 2"  # no record
+    yield script.load(named_block("big", 1, 1, focus_mode=b" MANUAL \0")), "no 3"
+    yield script.load(readers.block_of([(0xB7, 7, 29, at(29, {0: b"0100", 6: b"\3\1"}))])), "no 4"  # a byte short
+    outside = ((6016, 4016), (100, 2000), (201, 200))  # half of 201 is 101, rounded up, and 101 > 100
+    yield script.load(recorded_block(b"0101", "big", outside, 1, (0, 0), [])), "no 5"
+    yield script.load(named_block("big", 0, 1)), "no 6"  # primary 0
+    yield script.LIST, "no 7"
+    # Point 1 of the table, as it is; 64 turns are sixteen times around.
+    yield script.load(plain), "ok"
+    shown = "frame 6016 4016 points 1 primary 0 mode 1 origin 2\n1 3008 2007 164 164 0"
+    for _ in range(64):
+        yield script.TURN, "ok"
+    yield script.MIRROR, "no 8"
+    yield script.cut(0, 0, 0, 0), "no 8"  # 9 applies as well, and the lowest number is returned
+    yield script.LIST, shown
+    # 63 turns: once counterclockwise, (x, y) at (y, 6016 - x) in a frame of 4016 by 6016.
+    yield script.BACK, "ok"
+    yield script.cut(0, 0, 4016, 6017), "no 9"
+    yield script.cut(0, 0, 400, 0), "no 9"  # a zero side
+    yield script.cut(0, 0, 400, 400), "no 10"  # the primary is elsewhere
+    yield script.LIST, "frame 4016 6016 points 1 primary 0 mode 1 origin 2\n1 2007 3008 164 164 0"
+    yield script.load(plain), "ok"
+    yield script.BACK, "no 11"  # the load has replaced the edits
+    yield script.fit(0, 100), "no 12"
+    body = script.load_body(None, None, reference.MODEL, plain)
+    for malformed in (
+        b"",  # an empty line
+        b"03F",  # an odd count of digits
+        b"0X03FD",  # another character
+        b"03FE",  # a wrong check
+        script.line(9),  # an unknown code
+        script.line(3, b"\0"),  # a wrong length
+        script.line(1, b"\4", body[1:]),  # a flag byte of 4
+        script.line(1, b"\0\0\0\0\1", body[5:]),  # a missing size with a side of 1
+        script.contents(bytes(2047)),  # 4,098 characters
+    ):
+        yield malformed, "no 14"
+    yield script.LIST, shown
+
+
+def worked(pairs):
+    """A script whose answers are worked out by hand."""
+    lines, answers = zip(*((line.encode() if isinstance(line, str) else line, answer) for line, answer in pairs))
+    given = script.text(lines)
+    printed = reference.run_script(given)
+    by_hand = "".join(answer + "\n" for answer in answers)
+    if printed != by_hand:
+        for line, answer, own in zip(lines, by_hand.splitlines(), printed.splitlines()):
+            if answer != own:
+                sys.exit("by hand: %s\nthe reference: %s" % (answer, own))
+        sys.exit("the reference prints another number of lines than by hand")
+    return given, printed.encode()
+
+
+def files():
+    """The files, as (path, bytes)."""
+    for name, pairs in (
+        ("whole-case", whole_case()), ("dx-crop", dx_crop()), ("recorded", recorded()), ("refusals", refusals()),
+    ):
+        given, printed = worked(pairs)
+        yield os.path.join("demo", name + ".txt"), given
+        yield os.path.join("demo", name + ".out"), printed
+        if name == "whole-case":
+            yield os.path.join("crates", "focusdesk", "stdin"), given
+            yield os.path.join("crates", "focusdesk", "stdout"), printed
+
+
+def main(arguments):
+    status = stored.write_or_check(files(), arguments)
+    if status is None:
+        print(__doc__.strip(), file=sys.stderr)
+        return 2
+    return status
+
+
+if __name__ == "__main__":
+    sys.exit(main(sys.argv[1:]))

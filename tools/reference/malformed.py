@@ -1,0 +1,199 @@
+#!/usr/bin/env python3
+"""malformed.py            write the stored lines of focusdesk_lines
+malformed.py --check    say whether the files are what would be written
+
+Writes crates/focusdesk_lines/stdin: lines that are malformed in every way, and
+the well-formed ones beside them, on an empty sheet and on one with a standing
+edit, each with a list line after it; and crates/focusdesk_lines/stdout, what
+`focusdesk` must print. Which lines are malformed is said here, line by line;
+nothing is written if reference.py says otherwise. The last feed is missing.
+"""
+
+import os
+import sys
+
+sys.dont_write_bytecode = True
+
+import demos
+import reference
+import script
+import stored
+
+BLOCK = demos.named_block("big", 27, 1 << 0 | 1 << 37, (0, 8))
+OTHER = demos.named_block("little", 2, 1 << 1)
+BODY = script.load_body(None, None, reference.MODEL, BLOCK)
+
+
+def filled(line, length):
+    """A load or contents line of a whole length, filled up behind its block."""
+    body = bytes.fromhex(line.decode())[:-1]
+    return script.line(body[0], body[1:].ljust(length // 2 - 2, b"\xa5"))
+
+
+def with_size(flags, *sides):
+    """A load of these flags and sides, whether or not they go together."""
+    return script.line(1, bytes([flags]), b"".join(side.to_bytes(4, "big") for side in sides), BODY[17:])
+
+
+def malformed():
+    """Every kind of malformed line."""
+    load, cut = script.load(OTHER), script.cut(0, 0, 4016, 6016)
+    longest = filled(load, 4096)
+    yield from (b"", b" ", b"\r", b"\0")
+
+    # Too long: by a character, by two, with a right check, and where the first 4,096 characters are a whole call.
+    yield longest + b"0"
+    yield longest + b"00"
+    yield longest + script.TURN
+    yield filled(load, 4098)
+    yield filled(script.contents(OTHER), 4098)
+    yield b"0" * 4097
+    yield b" " * 4097
+    yield script.TURN.ljust(4097)
+    yield script.TURN * 3000
+    # As long as a line may be, and malformed otherwise.
+    yield longest[:-2] + b"00"
+    yield longest[:-1] + b"g"
+    yield b"g" + longest[1:]
+    yield longest[:-1] + b"\r"
+    yield longest[:-1]
+    yield script.line(9, bytes(2046))
+    yield script.line(1, b"\4", bytes(2045))
+    yield b"0" * 4096
+
+    # An odd count of digits.
+    yield from (b"0", b"3", b"03F", b"03FD0", b"003FD", load[:-1], cut + b"0", b"000")
+    # Another character: beside the digits and letters, a sign, a space, a prefix, bytes above 127.
+    for other in b"/:@G`g \t\r\0\x7f\x80\xff+-.,_xX":
+        yield b"03F" + bytes([other])
+        yield bytes([other]) + b"3FD"
+    yield from (b"03 FD", b"03FD ", b" 03FD", b"  03FD", b"0x03FD", b"03FDh ", b"03FD\0\0", "٠٣FD".encode())
+    # A carriage return before the feed.
+    yield from (b"03FD\r", b"03FD\r\r", load + b"\r", cut + b"\r")
+    # A wrong check.
+    yield from (b"03FE", b"03FC", b"0303", b"0300", b"03FF", b"04FD", load[:-2] + b"00", cut[:-1] + b"0", b"FD03")
+    # One byte, with a check that is right or wrong.
+    yield from (b"00", b"01", b"03", b"06", b"FF")
+    # An unknown code.
+    for code in (0, 9, 10, 16, 0x30, 0x83, 254, 255):
+        yield script.line(code)
+        yield script.line(code, bytes(16))
+    # A wrong length for each code.
+    yield from (script.line(1), script.line(1, bytes(17)), script.line(1, BODY[:17]))
+    for missing in (1, 2, 10):  # the model's length passes the end
+        yield script.line(1, BODY[: 28 - missing])
+    yield script.line(1, bytes(17), b"\xff", bytes(254))
+    for length in (0, 4, 12, 15, 17, 20):
+        yield script.line(2, bytes(length))
+    for code in (3, 4, 5, 6):
+        for length in (1, 4, 2000):
+            yield script.line(code, bytes(length))
+    for length in (0, 4, 7, 9, 16):
+        yield script.line(7, bytes(length))
+    yield script.TURN + script.TURN
+    # A flag byte above 3.
+    for flags in (4, 5, 7, 8, 0x80, 0xFF):
+        yield with_size(flags, 0, 0, 0, 0)
+        yield with_size(flags, 6016, 4016, 6016, 4016)
+    # A missing size whose sides aren't 0.
+    for flags, sides in (
+        (0, (1, 0, 0, 0)), (0, (0, 1, 0, 0)), (0, (0, 0, 1, 0)), (0, (0, 0, 0, 1)), (0, (6016, 4016, 6016, 4016)),
+        (1, (6016, 4016, 1, 0)), (1, (6016, 4016, 0, 1)), (1, (0, 0, 6016, 4016)), (1, (0, 0, 0, 0x1000000)),
+        (2, (1, 0, 6016, 4016)), (2, (0, 1, 6016, 4016)), (2, (6016, 4016, 0, 0)), (2, (0x1000000, 0, 0, 0)),
+    ):
+        yield with_size(flags, *sides)
+
+
+def mixed(line):
+    return b"".join(bytes([c]).lower() if i % 3 else bytes([c]).upper() for i, c in enumerate(line))
+
+
+def first_load():
+    yield script.load(BLOCK), "ok"
+    yield script.TURN, "ok"
+
+
+def well_formed():
+    """Lines that come near to being malformed, with their answers."""
+    # Points 1, 27 and 38 after a turn, and in any case of letters.
+    for way in (bytes.lower, bytes.upper, mixed):
+        yield way(script.load(BLOCK)), "ok"
+        yield way(script.TURN), "ok"
+        yield way(script.cut(1000, 100, 3016, 5900)), "ok"
+        yield way(script.MIRROR), "ok"
+        yield way(script.BACK), "ok"
+        yield way(script.BACK), "ok"
+    # As long as a line may be: contents, and a load that is accepted, in any case.
+    yield filled(script.contents(BLOCK), 4096), "tags 1 183"
+    yield filled(script.contents(b""), 4096), "no 1"
+    for way in (bytes.lower, bytes.upper, mixed):
+        yield way(filled(script.load(BLOCK), 4096)), "ok"
+        yield script.TURN, "ok"
+    yield filled(script.load(BLOCK), 4094), "ok"
+    yield script.TURN, "ok"
+    # As short as it may be.
+    yield script.contents(b""), "no 1"
+    yield script.line(1, bytes(18)), "no 1"
+    yield script.line(1, bytes(17), b"\xff", bytes(255)), "no 1"
+    # Each flag, with sides of any size; sides of zero may be given.
+    for flags, sides in (
+        (0, (0, 0, 0, 0)), (1, (6016, 4016, 0, 0)), (1, (0, 0, 0, 0)), (2, (0, 0, 6016, 4016)), (2, (0, 0, 0, 0)),
+        (3, (0, 0, 0, 0)), (3, (4294967295, 1, 1, 4294967295)),
+    ):
+        yield with_size(flags, *sides), "ok"
+        yield script.TURN, "ok"
+
+
+# The points of the load, and where a turn puts them: (x, y) at (4016 - y, x).
+LISTED = ("frame 6016 4016 points 3 primary 1 mode 3 origin 2\n"
+          "1 3008 2007 164 164 0\n27 4203 2308 164 164 0\n38 1812 1705 164 164 0")
+TURNED = ("frame 4016 6016 points 3 primary 1 mode 3 origin 2\n"
+          "1 2009 3008 164 164 0\n27 1708 4203 164 164 0\n38 2311 1812 164 164 0")
+
+
+def pairs():
+    """Each line with its answer, or None where it is only the reference's."""
+    for line in malformed():
+        yield line, "no 14"
+        yield script.LIST, "no 7"
+    yield script.BACK, "no 7"
+    yield from first_load()
+    yield script.LIST, TURNED
+    for line in malformed():
+        yield line, "no 14"
+        yield script.LIST, TURNED
+    # One edit stands, as before.
+    yield script.BACK, "ok"
+    yield script.LIST, LISTED
+    yield script.BACK, "no 11"
+    for line, answer in well_formed():
+        yield line, answer
+        yield script.LIST, None
+    yield script.LIST, TURNED
+    # Feeds alone, and a last line without one.
+    for _ in range(5):
+        yield b"", "no 14"
+    yield script.LIST.lower(), TURNED
+
+
+def main(arguments):
+    lines, answers = zip(*pairs())
+    book = reference.Book()
+    for line, answer in zip(lines, answers):
+        own = reference.answer_text(book, line)
+        if answer is not None and own != answer + "\n":
+            sys.exit("%r...: here %s, the reference %s" % (line[:60], answer, own))
+    given = script.text(lines, last_feed=False)
+    crate = os.path.join("crates", "focusdesk_lines")
+    status = stored.write_or_check([
+        (os.path.join(crate, "stdin"), given),
+        (os.path.join(crate, "stdout"), reference.run_script(given).encode())], arguments)
+    if status is None:
+        print(__doc__.strip(), file=sys.stderr)
+        return 2
+    print("%d lines, of which malformed: %d" % (len(lines), answers.count("no 14")))
+    return status
+
+
+if __name__ == "__main__":
+    sys.exit(main(sys.argv[1:]))

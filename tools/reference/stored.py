@@ -1,0 +1,64 @@
+"""What is stored: the loads of the program placing_test, as material for other
+calls, with cuts by chance; and files that are written or compared."""
+
+import os
+import struct
+
+import reference
+
+ROOT = os.path.join(os.path.dirname(os.path.abspath(__file__)), "..", "..")
+CRATES = os.path.join(ROOT, "crates")
+RECORD = 512
+HUGE = [0, 1, 4294967295]
+
+
+def loads():
+    """The loads of placing_test, as (raw, picture, model, block)."""
+    with open(os.path.join(CRATES, "placing_test", "stdin"), "rb") as file:
+        data = file.read()
+    for start in range(0, len(data), RECORD):
+        record = data[start : start + RECORD]
+        flags, *sides, model_length, block_length = struct.unpack(">B4IBH", record[:20])
+        model = record[20 : 20 + model_length]
+        block = record[20 + model_length : 20 + model_length + block_length]
+        yield (tuple(sides[:2]) if flags & 1 else None, tuple(sides[2:]) if flags & 2 else None, model, block)
+
+
+def answer(given):
+    """What the reference says of such a load."""
+    raw, picture, model, block = given
+    return reference.load(block, raw, picture, model)
+
+
+def a_cut(chance, book):
+    """Mostly a cut inside the present frame, around some listed point."""
+    if book.held is None or chance.random() < 0.1:
+        return [chance.choice(HUGE + [chance.randrange(7000)]) for _ in range(4)]
+    width, height = book.frame()
+    _, point = chance.choice(book.listed())
+    sides = []
+    for centre, side in ((point[1], width), (point[2], height)):
+        before = chance.randrange(centre + 1) if chance.random() < 0.7 else max(0, centre - chance.randrange(200))
+        length = chance.randrange(side - before + 2) if chance.random() < 0.3 else side - before
+        sides.append((before, length))
+    return [sides[0][0], sides[1][0], sides[0][1], sides[1][1]]
+
+
+def write_or_check(named, arguments):
+    """Writes (path, bytes) below the repository's root; with --check, compares."""
+    if arguments not in ([], ["--check"]):
+        return None
+    unlike = 0
+    for path, data in named:
+        full = os.path.join(ROOT, path)
+        if not arguments:
+            os.makedirs(os.path.dirname(full), exist_ok=True)
+            with open(full, "wb") as file:
+                file.write(data)
+        else:
+            with open(full, "rb") as file:
+                if file.read() != data:
+                    print("%s: not what would be written" % path)
+                    unlike += 1
+        print("%s: %d lines, %d bytes" % (path, data.count(b"\n") + (data[-1:] not in (b"\n", b"")), len(data)))
+    return 1 if unlike else 0
