@@ -1,5 +1,5 @@
--- What the digits of a number are, beside their definition: they say the number, each is a digit, the first is not 0 (but in 0), and
--- a 32-bit number has ten at the most. proofs/Digits.antt proves each.
+-- What the digits of a number are, beside their definition: they say the number, each is a digit, the first is no 0 but in 0 itself,
+-- and a 32-bit number has ten at the most. proofs/Digits.antt proves each.
 use Prim.Native.Nat.{ℕ, _≤_, _<_}
 use mathlib.Core.Path.{_≡_}
 use lib.ListN.{length, getD}
@@ -8,9 +8,12 @@ use Rattle.text.specs.Number.{digitsOf, readOf}
 abbrev pub ReadsBack : Type 0
 ReadsBack = (n : ℕ) → readOf (digitsOf n) ≡ n
 
--- 48 to 57 are the characters 0 to 9
+-- a character from `0` to `9`
+abbrev pub IsDigit : ℕ → Type 0
+IsDigit c = (48 ≤ c) × (c ≤ 57)
+
 abbrev pub DigitsOnly : Type 0
-DigitsOnly = (n i : ℕ) → i < length (digitsOf n) → (48 ≤ getD (digitsOf n) i 0) × (getD (digitsOf n) i 0 ≤ 57)
+DigitsOnly = (n i : ℕ) → i < length (digitsOf n) → IsDigit (getD (digitsOf n) i 0)
 
 abbrev pub NoLeadingZero : Type 0
 NoLeadingZero = (n : ℕ) → 0 < n → 49 ≤ getD (digitsOf n) 0 0

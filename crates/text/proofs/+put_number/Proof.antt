@@ -1,3 +1,4 @@
+-- `put_number`: below 10 one digit, else the digits of the tenth and one more. The number falls at each call. Assumes nothing.
 use mathlib.Core.Path.{_∙_}
 use Rattle.text.proofs.Laws as laws
 use native.Mathlib.Omega.{arith}
@@ -23,7 +24,6 @@ abbrev put-number-below : ℕ → In 1 put-number-kinds.ps
 put-number-below t =
     and 1 put-number-kinds.ps (falls 1 put-number-kinds.ps _<_ μ-put-number t) put-number.Pre
 
--- src/lib.rt:50:34
 put-number-last-digit-requires : (t : ℕ) → put-number-lts.Need-last-digit-requires (
   last-digit-reads.Asked,
   last-digit-reads.Learnt,
@@ -34,7 +34,6 @@ put-number-last-digit-requires : (t : ℕ) → put-number-lts.Need-last-digit-re
 ) (put-number-at t) put-number.Post
 put-number-last-digit-requires t c κs = tt
 
--- src/lib.rt:50:9
 put-number-put-byte-requires : (t : ℕ) → put-number-lts.Need-put-byte-requires (
   last-digit-reads.Asked,
   last-digit-reads.Learnt,
@@ -45,7 +44,6 @@ put-number-put-byte-requires : (t : ℕ) → put-number-lts.Need-put-byte-requir
 ) (put-number-at t) put-number.Post
 put-number-put-byte-requires t c κs = tt
 
--- src/lib.rt:50:9
 put-number-same-length : (t : ℕ) → put-number-lts.Need-same-length (
   last-digit-reads.Asked,
   last-digit-reads.Learnt,
@@ -56,7 +54,6 @@ put-number-same-length : (t : ℕ) → put-number-lts.Need-same-length (
 ) (put-number-at t) put-number.Post
 put-number-same-length t c = laws.put-same (c .before .before .put-byte .ensures)
 
--- src/lib.rt:50:9
 put-number-returns : (t : ℕ) → put-number-lts.Need-returns (
   last-digit-reads.Asked,
   last-digit-reads.Learnt,
@@ -67,7 +64,6 @@ put-number-returns : (t : ℕ) → put-number-lts.Need-returns (
 ) (put-number-at t) put-number.Post
 put-number-returns t c = laws.number-few _ (c .before .before .before .before .before .if1 .taken) (c .before .before .before .last-digit .ensures) (c .before .before .put-byte .ensures)
 
--- src/lib.rt:52:9
 put-number-put-number-requires : (t : ℕ) → put-number-lts.Need-put-number-requires (
   last-digit-reads.Asked,
   last-digit-reads.Learnt,
@@ -78,7 +74,6 @@ put-number-put-number-requires : (t : ℕ) → put-number-lts.Need-put-number-re
 ) (put-number-at t) put-number.Post
 put-number-put-number-requires t c κs = (omega arith, tt)
 
--- src/lib.rt:53:25
 put-number-last-digit-requires-2 : (t : ℕ) → put-number-lts.Need-last-digit-requires-2 (
   last-digit-reads.Asked,
   last-digit-reads.Learnt,
@@ -89,7 +84,6 @@ put-number-last-digit-requires-2 : (t : ℕ) → put-number-lts.Need-last-digit-
 ) (put-number-at t) put-number.Post
 put-number-last-digit-requires-2 t c κs = tt
 
--- src/lib.rt:53:5
 put-number-put-byte-requires-2 : (t : ℕ) → put-number-lts.Need-put-byte-requires-2 (
   last-digit-reads.Asked,
   last-digit-reads.Learnt,
@@ -100,7 +94,6 @@ put-number-put-byte-requires-2 : (t : ℕ) → put-number-lts.Need-put-byte-requ
 ) (put-number-at t) put-number.Post
 put-number-put-byte-requires-2 t c κs = tt
 
--- src/lib.rt:46:1
 put-number-same-length-2 : (t : ℕ) → put-number-lts.Need-same-length-2 (
   last-digit-reads.Asked,
   last-digit-reads.Learnt,
@@ -111,7 +104,6 @@ put-number-same-length-2 : (t : ℕ) → put-number-lts.Need-same-length-2 (
 ) (put-number-at t) put-number.Post
 put-number-same-length-2 t c = laws.put-same (c .before .before .put-byte2 .ensures) ∙ laws.put-same (c .before .before .before .before .before .before .before .put-number .ensures .0)
 
--- src/lib.rt:46:1
 put-number-returns-2 : (t : ℕ) → put-number-lts.Need-returns-2 (
   last-digit-reads.Asked,
   last-digit-reads.Learnt,

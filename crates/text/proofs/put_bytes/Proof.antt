@@ -1,3 +1,4 @@
+-- `put_bytes`: the loop's invariant is that the first i bytes of the piece are put. Assumes nothing.
 use Rattle.text.proofs.Laws as laws
 use native.Mathlib.Omega.{arith}
 use lib.ListN.{length, take}
@@ -5,9 +6,6 @@ use Prim.Native.Nat.{_≤_, _-_}
 use Rattle.text.specs.Put.{Put}
 use Rattle.text.proofs.put_bytes.Statement.{statement}
 use Rattle.text.proofs.put_bytes.Tie as tie
-use Rattle.text.proofs.put_bytes.Reads as reads
-use Rattle.text.proofs.put_bytes.Lts as lts
-use Rattle.text.proofs.put_byte.Reads as put-byte-reads
 
 abbrev Inv-loop : tie.InvT-loop
 Inv-loop out₀ at piece next₀ i₀ out next i = (i ≤ length piece) × Put out₀ at (take i piece) out next
@@ -15,35 +13,27 @@ Inv-loop out₀ at piece next₀ i₀ out next i = (i ≤ length piece) × Put o
 abbrev μ-loop : tie.MeasureT-loop
 μ-loop out₀ at piece next₀ i₀ out next i = length piece - i
 
--- src/lib.rt:31:5
 loop-holds : tie.Need-loop-holds Inv-loop μ-loop
 loop-holds c = (omega arith, laws.put-none _ _ (omega arith) (omega arith))
 
--- src/lib.rt:32:36
 shared-slice-read-put-byte : tie.Need-shared-slice-read-put-byte Inv-loop μ-loop
 shared-slice-read-put-byte c = omega arith
 
--- src/lib.rt:32:9
 put-byte-requires : tie.Need-put-byte-requires Inv-loop μ-loop
 put-byte-requires c κs = tt
 
--- src/lib.rt:33:9
 add-i : tie.Need-add-i Inv-loop μ-loop
 add-i c = omega arith
 
--- src/lib.rt:31:5
 loop-less : tie.Need-loop-less Inv-loop μ-loop
 loop-less c = omega arith
 
--- src/lib.rt:31:5
 loop-again : tie.Need-loop-again Inv-loop μ-loop
 loop-again c = (omega arith, laws.put-more _ _ (c .before .before .before .before .before .loop-test .taken) (c .before .before .before .before .before .before .loop .inv .1) (c .before .before .put-byte .ensures))
 
--- src/lib.rt:26:1
 same-length : tie.Need-same-length Inv-loop μ-loop
 same-length c = laws.put-same (c .before .loop .inv .1)
 
--- src/lib.rt:26:1
 returns : tie.Need-returns Inv-loop μ-loop
 returns c = laws.put-done _ _ (c .loop-test .left) (c .before .loop .inv .1)
 

@@ -1,97 +1,99 @@
+-- `put_head`: six words with their numbers, and the feed, joined. c1 to c6 are the places after the six. Assumes nothing.
 use Rattle.text.proofs.Laws as laws
 use mathlib.Core.Path.{_∙_}
 use borrow.Author.Needs.{needs}
 use Rattle.text.proofs.put_head.Statement.{statement}
 use Rattle.text.proofs.put_head.Tie as tie
-use Rattle.text.proofs.put_head.Reads as reads
-use Rattle.text.proofs.put_head.Lts as lts
-use Rattle.text.proofs.put_byte.Reads as put-byte-reads
-use Rattle.text.proofs.put_pair.Reads as put-pair-reads
-use Rattle.text.proofs.word_at.Reads as word-at-reads
 
--- src/lib.rt:90:31
 slice-aggregate-put-pair : tie.Need-slice-aggregate-put-pair
 slice-aggregate-put-pair c = search needs
 
--- src/lib.rt:90:42
 word-at-requires : tie.Need-word-at-requires
-word-at-requires c κs = search needs
+word-at-requires c κs = tt
 
--- src/lib.rt:90:9
 put-pair-requires : tie.Need-put-pair-requires
-put-pair-requires c κs = search needs
+put-pair-requires c κs = tt
 
--- src/lib.rt:91:30
 slice-aggregate-put-pair-2 : tie.Need-slice-aggregate-put-pair-2
 slice-aggregate-put-pair-2 c = search needs
 
--- src/lib.rt:91:36
 word-at-requires-2 : tie.Need-word-at-requires-2
-word-at-requires-2 c κs = search needs
+word-at-requires-2 c κs = tt
 
--- src/lib.rt:91:9
 put-pair-requires-2 : tie.Need-put-pair-requires-2
-put-pair-requires-2 c κs = search needs
+put-pair-requires-2 c κs = tt
 
--- src/lib.rt:92:30
 slice-aggregate-put-pair-3 : tie.Need-slice-aggregate-put-pair-3
 slice-aggregate-put-pair-3 c = search needs
 
--- src/lib.rt:92:43
 word-at-requires-3 : tie.Need-word-at-requires-3
-word-at-requires-3 c κs = search needs
+word-at-requires-3 c κs = tt
 
--- src/lib.rt:92:9
 put-pair-requires-3 : tie.Need-put-pair-requires-3
-put-pair-requires-3 c κs = search needs
+put-pair-requires-3 c κs = tt
 
--- src/lib.rt:93:30
 slice-aggregate-put-pair-4 : tie.Need-slice-aggregate-put-pair-4
 slice-aggregate-put-pair-4 c = search needs
 
--- src/lib.rt:93:44
 word-at-requires-4 : tie.Need-word-at-requires-4
-word-at-requires-4 c κs = search needs
+word-at-requires-4 c κs = tt
 
--- src/lib.rt:93:9
 put-pair-requires-4 : tie.Need-put-pair-requires-4
-put-pair-requires-4 c κs = search needs
+put-pair-requires-4 c κs = tt
 
--- src/lib.rt:94:30
 slice-aggregate-put-pair-5 : tie.Need-slice-aggregate-put-pair-5
 slice-aggregate-put-pair-5 c = search needs
 
--- src/lib.rt:94:41
 word-at-requires-5 : tie.Need-word-at-requires-5
-word-at-requires-5 c κs = search needs
+word-at-requires-5 c κs = tt
 
--- src/lib.rt:94:9
 put-pair-requires-5 : tie.Need-put-pair-requires-5
-put-pair-requires-5 c κs = search needs
+put-pair-requires-5 c κs = tt
 
--- src/lib.rt:95:30
 slice-aggregate-put-pair-6 : tie.Need-slice-aggregate-put-pair-6
 slice-aggregate-put-pair-6 c = search needs
 
--- src/lib.rt:95:43
 word-at-requires-6 : tie.Need-word-at-requires-6
-word-at-requires-6 c κs = search needs
+word-at-requires-6 c κs = tt
 
--- src/lib.rt:95:9
 put-pair-requires-6 : tie.Need-put-pair-requires-6
-put-pair-requires-6 c κs = search needs
+put-pair-requires-6 c κs = tt
 
--- src/lib.rt:96:5
 put-byte-requires : tie.Need-put-byte-requires
-put-byte-requires c κs = search needs
+put-byte-requires c κs = tt
 
--- src/lib.rt:87:1
 same-length : tie.Need-same-length
-same-length c = laws.put-same (c .before .before .put-byte .ensures) ∙ laws.put-same (c .before .before .before .before .before .before .put-pair6 .ensures .0) ∙ laws.put-same (c .before .before .before .before .before .before .before .before .before .before .before .before .put-pair5 .ensures .0) ∙ laws.put-same (c .before .before .before .before .before .before .before .before .before .before .before .before .before .before .before .before .before .before .put-pair4 .ensures .0) ∙ laws.put-same (c .before .before .before .before .before .before .before .before .before .before .before .before .before .before .before .before .before .before .before .before .before .before .before .before .put-pair3 .ensures .0) ∙ laws.put-same (c .before .before .before .before .before .before .before .before .before .before .before .before .before .before .before .before .before .before .before .before .before .before .before .before .before .before .before .before .before .before .put-pair2 .ensures .0) ∙ laws.put-same (c .before .before .before .before .before .before .before .before .before .before .before .before .before .before .before .before .before .before .before .before .before .before .before .before .before .before .before .before .before .before .before .before .before .before .before .before .put-pair .ensures .0)
+same-length c =
+    let c6 = c .before .before .before .before .before .before in
+    let c5 = c6 .before .before .before .before .before .before in
+    let c4 = c5 .before .before .before .before .before .before in
+    let c3 = c4 .before .before .before .before .before .before in
+    let c2 = c3 .before .before .before .before .before .before in
+    let c1 = c2 .before .before .before .before .before .before in
+    laws.put-same (c .before .before .put-byte .ensures) ∙ laws.put-same (c6 .put-pair6 .ensures .0) ∙ laws.put-same (c5 .put-pair5 .ensures .0) ∙ laws.put-same (c4 .put-pair4 .ensures .0) ∙ laws.put-same (c3 .put-pair3 .ensures .0) ∙ laws.put-same (c2 .put-pair2 .ensures .0) ∙ laws.put-same (c1 .put-pair .ensures .0)
 
--- src/lib.rt:87:1
 returns : tie.Need-returns
-returns c = laws.head-line _ (c .before .before .before .before .before .before .before .before .before .before .before .before .before .before .before .before .before .before .before .before .before .before .before .before .before .before .before .before .before .before .before .before .before .before .before .before .before .word-at .ensures) (c .before .before .before .before .before .before .before .before .before .before .before .before .before .before .before .before .before .before .before .before .before .before .before .before .before .before .before .before .before .before .before .word-at2 .ensures) (c .before .before .before .before .before .before .before .before .before .before .before .before .before .before .before .before .before .before .before .before .before .before .before .before .before .word-at3 .ensures) (c .before .before .before .before .before .before .before .before .before .before .before .before .before .before .before .before .before .before .before .word-at4 .ensures) (c .before .before .before .before .before .before .before .before .before .before .before .before .before .word-at5 .ensures) (c .before .before .before .before .before .before .before .word-at6 .ensures) (c .before .before .before .before .before .before .before .before .before .before .before .before .before .before .before .before .before .before .before .before .before .before .before .before .before .before .before .before .before .before .before .before .before .before .before .before .put-pair .ensures) (c .before .before .before .before .before .before .before .before .before .before .before .before .before .before .before .before .before .before .before .before .before .before .before .before .before .before .before .before .before .before .put-pair2 .ensures) (c .before .before .before .before .before .before .before .before .before .before .before .before .before .before .before .before .before .before .before .before .before .before .before .before .put-pair3 .ensures) (c .before .before .before .before .before .before .before .before .before .before .before .before .before .before .before .before .before .before .put-pair4 .ensures) (c .before .before .before .before .before .before .before .before .before .before .before .before .put-pair5 .ensures) (c .before .before .before .before .before .before .put-pair6 .ensures) (c .before .before .put-byte .ensures)
+returns c =
+    let c6 = c .before .before .before .before .before .before in
+    let c5 = c6 .before .before .before .before .before .before in
+    let c4 = c5 .before .before .before .before .before .before in
+    let c3 = c4 .before .before .before .before .before .before in
+    let c2 = c3 .before .before .before .before .before .before in
+    let c1 = c2 .before .before .before .before .before .before in
+    laws.head-line _
+    (c1 .before .word-at .ensures)
+    (c2 .before .word-at2 .ensures)
+    (c3 .before .word-at3 .ensures)
+    (c4 .before .word-at4 .ensures)
+    (c5 .before .word-at5 .ensures)
+    (c6 .before .word-at6 .ensures)
+    (c1 .put-pair .ensures)
+    (c2 .put-pair2 .ensures)
+    (c3 .put-pair3 .ensures)
+    (c4 .put-pair4 .ensures)
+    (c5 .put-pair5 .ensures)
+    (c6 .put-pair6 .ensures)
+    (c .before .before .put-byte .ensures)
 
 pub put-head-spec : {M : Type 1} → statement M
 put-head-spec =

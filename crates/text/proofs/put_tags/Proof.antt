@@ -1,45 +1,31 @@
+-- `put_tags`: the count, the tags and the feed, joined. Assumes nothing.
 use Rattle.text.proofs.Laws as laws
-use native.Mathlib.Omega.{arith}
 use mathlib.Core.Path.{_∙_}
 use borrow.Author.Needs.{needs}
 use Rattle.text.proofs.put_tags.Statement.{statement}
 use Rattle.text.proofs.put_tags.Tie as tie
-use Rattle.text.proofs.put_tags.Reads as reads
-use Rattle.text.proofs.put_tags.Lts as lts
-use Rattle.text.proofs.put_byte.Reads as put-byte-reads
-use Rattle.text.proofs.put_each.Reads as put-each-reads
-use Rattle.text.proofs.put_pair.Reads as put-pair-reads
-use Rattle.text.proofs.smaller.Reads as smaller-reads
 
--- src/lib.rt:160:9
 smaller-requires : tie.Need-smaller-requires
-smaller-requires c κs = search needs
+smaller-requires c κs = tt
 
--- src/lib.rt:161:31
 slice-aggregate-put-pair : tie.Need-slice-aggregate-put-pair
 slice-aggregate-put-pair c = search needs
 
--- src/lib.rt:161:41
 cast-put-pair : tie.Need-cast-put-pair
 cast-put-pair c = search needs
 
--- src/lib.rt:161:9
 put-pair-requires : tie.Need-put-pair-requires
-put-pair-requires c κs = search needs
+put-pair-requires c κs = tt
 
--- src/lib.rt:162:9
 put-each-requires : tie.Need-put-each-requires
 put-each-requires c κs = search needs
 
--- src/lib.rt:163:5
 put-byte-requires : tie.Need-put-byte-requires
-put-byte-requires c κs = search needs
+put-byte-requires c κs = tt
 
--- src/lib.rt:157:1
 same-length : tie.Need-same-length
 same-length c = laws.put-same (c .before .before .put-byte .ensures) ∙ laws.put-same (c .before .before .before .before .before .before .put-each .ensures .0) ∙ laws.put-same (c .before .before .before .before .before .before .before .before .before .before .put-pair .ensures .0)
 
--- src/lib.rt:157:1
 returns : tie.Need-returns
 returns c = laws.tags-line _ _ _ (c .before .before .before .before .before .before .before .before .before .before .before .before .before .smaller .ensures) (c .before .before .before .before .before .before .before .before .before .before .put-pair .ensures) (c .before .before .before .before .before .before .put-each .ensures) (c .before .before .put-byte .ensures)
 

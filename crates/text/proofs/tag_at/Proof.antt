@@ -1,24 +1,19 @@
+-- `tag_at`: past the end a list reads as 0. Assumes nothing.
 use mathlib.Core.Path.{sym}
 use lib.ListN.{List·getD-eq-default}
 use borrow.Author.Needs.{needs}
 use Rattle.text.proofs.tag_at.Statement.{statement}
 use Rattle.text.proofs.tag_at.Tie as tie
-use Rattle.text.proofs.tag_at.Reads as reads
-use Rattle.text.proofs.tag_at.Lts as lts
 
--- src/lib.rt:139:25
 mul-result : tie.Need-mul-result
 mul-result c = search needs
 
--- src/lib.rt:139:25
 shared-slice-read-result : tie.Need-shared-slice-read-result
 shared-slice-read-result c = search needs
 
--- src/lib.rt:136:1
 returns : tie.Need-returns
 returns c = search needs
 
--- src/lib.rt:136:1
 returns-2 : tie.Need-returns-2
 returns-2 c = sym (List·getD-eq-default (c .before .args .tags .now) 0 (c .if1 .left))
 
