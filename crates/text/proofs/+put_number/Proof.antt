@@ -62,7 +62,7 @@ put-number-returns : (t : ℕ) → put-number-lts.Need-returns (
   put-number-below t,
   put-number.Post,
 ) (put-number-at t) put-number.Post
-put-number-returns t c = laws.number-few _ (c .before .before .before .before .before .if1 .taken) (c .before .before .before .last-digit .ensures) (c .before .before .put-byte .ensures)
+put-number-returns t c = laws.number-few _ (omega (arith, (c .before .before .before .before .before .if1 .taken))) (c .before .before .before .last-digit .ensures) (c .before .before .put-byte .ensures)
 
 put-number-put-number-requires : (t : ℕ) → put-number-lts.Need-put-number-requires (
   last-digit-reads.Asked,
@@ -112,7 +112,7 @@ put-number-returns-2 : (t : ℕ) → put-number-lts.Need-returns-2 (
   put-number-below t,
   put-number.Post,
 ) (put-number-at t) put-number.Post
-put-number-returns-2 t c = laws.number-more _ (omega arith) (c .before .before .before .before .before .before .before .before .before .if1 .left) (c .before .before .before .last-digit2 .ensures) (c .before .before .before .before .before .before .before .put-number .ensures .0) (c .before .before .put-byte2 .ensures)
+put-number-returns-2 t c = laws.number-more _ (omega arith) (omega (arith, (c .before .before .before .before .before .before .before .before .before .if1 .left))) (c .before .before .before .last-digit2 .ensures) (c .before .before .before .before .before .before .before .put-number .ensures .0) (c .before .before .put-byte2 .ensures)
 
 pub +put-number-spec : {M : Type 1} → statement M
 +put-number-spec = close μ-put-number λ t. put-number-lts.spec (
