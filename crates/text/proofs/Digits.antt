@@ -1,6 +1,6 @@
 -- The digits of a number are one digit below 10, else those of its tenth and one more; and the laws of specs/Laws.antt. The idea:
 -- steps beyond those that a number needs change nothing, so that each law goes from a tenth to its number. Assumes nothing.
-use Prim.Native.Nat.{ℕ, zero, suc, _+_, _*_, _-_, _/_, _%_, _<_, _≤_}
+use Prim.Native.Nat.{ℕ, zero, suc, _+_, _*_, _-_, _/_, _<_, _≤_}
 use mathlib.Core.Path.{_≡_, refl}
 use mathlib.Core.List.{List, [], _∷_, _++_}
 use mathlib.Core.Logic.{⊎-elim}

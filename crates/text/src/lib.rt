@@ -2,7 +2,7 @@
 // end is not put, but counted.
 ghost use mathlib.Core.Path.{_≡_};
 ghost use mathlib.Core.List.{[], _∷_};
-ghost use Prim.Native.Nat.{_+_, _%_, _<_, _≤_, min};
+ghost use Prim.Native.Nat.{_<_, _≤_, min};
 ghost use lib.ListN.{length, getD};
 ghost use Rattle.text.specs.Number.{digitsOf, lastDigit};
 ghost use Rattle.text.specs.Put.{Put};
@@ -92,8 +92,8 @@ pub fn put_head(out: &mut [u8], at: usize, given: &[u32]) -> usize
     let c = put_pair(out, b, b" points ", word_at(given, 2));
     let d = put_pair(out, c, b" primary ", word_at(given, 3));
     let e = put_pair(out, d, b" mode ", word_at(given, 4));
-    let f = put_pair(out, e, b" origin ", word_at(given, 5));
-    put_byte(out, f, 10)
+    let end = put_pair(out, e, b" origin ", word_at(given, 5));
+    put_byte(out, end, 10)
 }
 
 // The line of point i: its six numbers.

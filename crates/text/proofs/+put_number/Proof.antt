@@ -1,6 +1,7 @@
 -- `put_number`: below 10 one digit, else the digits of the tenth and one more. The number falls at each call. Assumes nothing.
 use mathlib.Core.Path.{_∙_}
 use Rattle.text.proofs.Laws as laws
+use Rattle.text.proofs.Lines as lines
 use native.Mathlib.Omega.{arith}
 use Prim.Native.Nat.{ℕ, _<_}
 use borrow.Fn.Kinds.{In}
@@ -62,7 +63,7 @@ put-number-returns : (t : ℕ) → put-number-lts.Need-returns (
   put-number-below t,
   put-number.Post,
 ) (put-number-at t) put-number.Post
-put-number-returns t c = laws.number-few _ (c .before .before .before .before .before .if1 .taken) (c .before .before .before .last-digit .ensures) (c .before .before .put-byte .ensures)
+put-number-returns t c = lines.number-few _ (omega (arith, (c .before .before .before .before .before .if1 .taken))) (c .before .before .before .last-digit .ensures) (c .before .before .put-byte .ensures)
 
 put-number-put-number-requires : (t : ℕ) → put-number-lts.Need-put-number-requires (
   last-digit-reads.Asked,
@@ -112,7 +113,7 @@ put-number-returns-2 : (t : ℕ) → put-number-lts.Need-returns-2 (
   put-number-below t,
   put-number.Post,
 ) (put-number-at t) put-number.Post
-put-number-returns-2 t c = laws.number-more _ (omega arith) (c .before .before .before .before .before .before .before .before .before .if1 .left) (c .before .before .before .last-digit2 .ensures) (c .before .before .before .before .before .before .before .put-number .ensures .0) (c .before .before .put-byte2 .ensures)
+put-number-returns-2 t c = lines.number-more _ (omega arith) (omega (arith, (c .before .before .before .before .before .before .before .before .before .if1 .left))) (c .before .before .before .last-digit2 .ensures) (c .before .before .before .before .before .before .before .put-number .ensures .0) (c .before .before .put-byte2 .ensures)
 
 pub +put-number-spec : {M : Type 1} → statement M
 +put-number-spec = close μ-put-number λ t. put-number-lts.spec (

@@ -1,5 +1,6 @@
 -- `put_each`: the loop's invariant is that the first i tags are put, 11 characters a tag at the most. Assumes nothing.
 use Rattle.text.proofs.Laws as laws
+use Rattle.text.proofs.Lines as lines
 use native.Mathlib.Omega.{arith}
 use borrow.Author.Needs.{needs}
 use Prim.Native.Nat.{_≤_, _-_, _*_}
@@ -14,7 +15,7 @@ abbrev μ-loop : tie.MeasureT-loop
 μ-loop out₀ at tags n after₀ i₀ t7 out after i = n - i
 
 loop-holds : tie.Need-loop-holds Inv-loop μ-loop
-loop-holds c = (omega arith, laws.tags-none _ _ _ (omega arith) (omega arith))
+loop-holds c = (omega arith, lines.tags-none _ _ _ (omega arith) (omega arith))
 
 slice-aggregate-put-pair : tie.Need-slice-aggregate-put-pair Inv-loop μ-loop
 slice-aggregate-put-pair c = search needs
@@ -35,13 +36,13 @@ loop-less : tie.Need-loop-less Inv-loop μ-loop
 loop-less c = omega arith
 
 loop-again : tie.Need-loop-again Inv-loop μ-loop
-loop-again c = (omega arith, laws.tags-more _ _ (c .before .before .before .tag-at .ensures) (c .before .before .before .before .before .before .before .loop .inv .1) (c .before .before .put-pair .ensures))
+loop-again c = (omega arith, lines.tags-more _ _ (c .before .before .before .tag-at .ensures) (c .before .before .before .before .before .before .before .loop .inv .1) (c .before .before .put-pair .ensures))
 
 same-length : tie.Need-same-length Inv-loop μ-loop
 same-length c = laws.put-same (c .before .loop .inv .1 .0)
 
 returns : tie.Need-returns Inv-loop μ-loop
-returns c = laws.tags-done _ _ _ (omega arith) (c .before .before .before .before .pre) (c .before .loop .inv .1)
+returns c = lines.tags-done _ _ _ (omega arith) (c .before .before .before .before .pre) (c .before .loop .inv .1)
 
 pub put-each-spec : {M : Type 1} → statement M
 put-each-spec =

@@ -1,5 +1,6 @@
 -- `put_head`: six words with their numbers, and the feed, joined. c1 to c6 are the places after the six. Assumes nothing.
 use Rattle.text.proofs.Laws as laws
+use Rattle.text.proofs.Lines as lines
 use mathlib.Core.Path.{_∙_}
 use borrow.Author.Needs.{needs}
 use Rattle.text.proofs.put_head.Statement.{statement}
@@ -80,7 +81,7 @@ returns c =
     let c3 = c4 .before .before .before .before .before .before in
     let c2 = c3 .before .before .before .before .before .before in
     let c1 = c2 .before .before .before .before .before .before in
-    laws.head-line _
+    lines.head-line _
     (c1 .before .word-at .ensures)
     (c2 .before .word-at2 .ensures)
     (c3 .before .word-at3 .ensures)

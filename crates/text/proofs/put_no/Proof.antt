@@ -1,5 +1,6 @@
 -- `put_no`: the word, the number and the feed, joined. Assumes nothing.
 use Rattle.text.proofs.Laws as laws
+use Rattle.text.proofs.Lines as lines
 use mathlib.Core.Path.{_∙_}
 use borrow.Author.Needs.{needs}
 use Rattle.text.proofs.put_no.Statement.{statement}
@@ -18,7 +19,7 @@ same-length : tie.Need-same-length
 same-length c = laws.put-same (c .before .before .put-byte .ensures) ∙ laws.put-same (c .before .before .before .before .before .before .put-pair .ensures .0)
 
 returns : tie.Need-returns
-returns c = laws.no-line _ (c .before .before .before .before .before .before .put-pair .ensures) (c .before .before .put-byte .ensures)
+returns c = lines.no-line _ (c .before .before .before .before .before .before .put-pair .ensures) (c .before .before .put-byte .ensures)
 
 pub put-no-spec : {M : Type 1} → statement M
 put-no-spec =

@@ -1,5 +1,6 @@
 -- `put_tags`: the count, the tags and the feed, joined. Assumes nothing.
 use Rattle.text.proofs.Laws as laws
+use Rattle.text.proofs.Lines as lines
 use mathlib.Core.Path.{_∙_}
 use borrow.Author.Needs.{needs}
 use Rattle.text.proofs.put_tags.Statement.{statement}
@@ -27,7 +28,7 @@ same-length : tie.Need-same-length
 same-length c = laws.put-same (c .before .before .put-byte .ensures) ∙ laws.put-same (c .before .before .before .before .before .before .put-each .ensures .0) ∙ laws.put-same (c .before .before .before .before .before .before .before .before .before .before .put-pair .ensures .0)
 
 returns : tie.Need-returns
-returns c = laws.tags-line _ _ _ (c .before .before .before .before .before .before .before .before .before .before .before .before .before .smaller .ensures) (c .before .before .before .before .before .before .before .before .before .before .put-pair .ensures) (c .before .before .before .before .before .before .put-each .ensures) (c .before .before .put-byte .ensures)
+returns c = lines.tags-line _ _ _ (c .before .before .before .before .before .before .before .before .before .before .before .before .before .smaller .ensures) (c .before .before .before .before .before .before .before .before .before .before .put-pair .ensures) (c .before .before .before .before .before .before .put-each .ensures) (c .before .before .put-byte .ensures)
 
 pub put-tags-spec : {M : Type 1} → statement M
 put-tags-spec =
