@@ -9,8 +9,8 @@ use reading::io::u8_at;
 use reading::io::u32_of;
 ghost use mathlib.Core.Path.{_≡_};
 ghost use Prim.Native.Nat.{_-_, _<_};
-ghost use lib.ListN.{length};
-ghost use Rattle.calls.specs.Format.{numberAt, sizeAt, sidesAgree, optional, modelLength, isLoad, loadOf, ofLength, cutOf, fitOf, contentsOf, byCode, callOf, modelPart, blockPart, contentsPart};
+ghost use Rattle.calls.specs.Format.{numberAt, sizeAt, sidesAgree, optional, modelLength, isLoad, loadOf};
+ghost use Rattle.calls.specs.Format.{ofLength, cutOf, fitOf, contentsOf, byCode, callOf, modelPart, blockPart, contentsPart};
 
 // How a line's bytes read; what a load or contents is given besides stands in the bytes, see model_of, block_of, contents_block.
 pub enum Call {

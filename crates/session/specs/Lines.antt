@@ -92,9 +92,9 @@ mostText = 2700
 
 -- a listing has 39 points at the most, and its primary's index is one of theirs
 abbrev pub fewPoints : ListAnswer → Type 0
-fewPoints Empty = ⊤
-fewPoints ZeroBox = ⊤
-fewPoints Short = ⊤
+fewPoints Empty = Unit {0}
+fewPoints ZeroBox = Unit {0}
+fewPoints Short = Unit {0}
 fewPoints (Listed l) = (l .count ≤ 39) × (l .index ≤ 39)
 
 -- what answering leaves: the sheet, the text at its place in the buffer, and the next place
