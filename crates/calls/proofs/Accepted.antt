@@ -1,0 +1,298 @@
+-- What is read was spelled so. The idea: a line's bytes are the parts at the format's places, one after another, and a check; four
+-- bytes are the bytes of the number that they say, and a byte is the check where the sum is 0. Assumes nothing.
+use Prim.Native.Nat.{ℕ, zero, suc, _+_, _*_, _-_, _/_, _%_, _<_, _≤_}
+use mathlib.Core.Bool.{Bool, true, false, _&&_, cond, false≢true}
+use mathlib.Core.List.{List, [], _∷_, _++_}
+use mathlib.Core.Logic.{_⊎_, inl, inr}
+use mathlib.Core.Path.{_≡_, refl, sym, ap, _∙_}
+use lib.Dec.{leb, eqb}
+use lib.ListN.{length, getD, take, drop, length-drop}
+use lib.Seq.{take-suc, take-all, take-add, drop-drop, getD-drop, length-take-le}
+use native.Mathlib.Omega.{arith}
+use native.Mathlib.Nat.{add-zero}
+use borrow.Author.Tests.{leb-true, eqb-true}
+use Rattle.reading.specs.Numbers.{u16Of, u32Of}
+use Rattle.reading.specs.declared.io.ByteOrder.the-variants.{Big}
+use Rattle.reading.specs.declared.geometry.Size.{Size}
+use Rattle.hex.specs.Hex.{sum, checks}
+use Rattle.calls.specs.declared.Call.{Call}
+use Rattle.calls.specs.declared.Call.the-variants.{Malformed, Load, Cut, Turn, Mirror, Back, ListPoints, Fit, Contents}
+use Rattle.calls.specs.Format.{ofLength, numberAt, sizeAt, sidesAgree, optional, hasRaw, hasPicture, flags, modelLength, isLoad, loadOf, cutOf, fitOf, contentsOf, byCode, callOf, modelPart, blockPart, contentsPart}
+use Rattle.calls.specs.Laws.{fourBytes, sizeBytes, isGiven, flagByte, sidesOf, body, checkOf, checked, Number, SizeNumbers, Bytes, Spells, ReadIsSpelled}
+use Rattle.calls.proofs.Spelled.{sum-snoc}
+
+-- ---- a number
+module _ (a b c d : ℕ) (ha : a < 256) (hb : b < 256) (hc : c < 256) (hd : d < 256) where
+  abbrev joined : ℕ
+  joined = 65536 * (256 * a + b) + (256 * c + d)
+
+  byte-1 : joined / 16777216 % 256 ≡ a
+  byte-1 = omega arith
+
+  byte-2 : joined / 65536 % 256 ≡ b
+  byte-2 = omega arith
+
+  byte-3 : joined / 256 % 256 ≡ c
+  byte-3 = omega arith
+
+  byte-4 : joined % 256 ≡ d
+  byte-4 = omega arith
+
+  pub number-small : joined < 4294967296
+  number-small = omega arith
+
+number-of : (s : List ℕ) → Bytes s → Number (u32Of Big s)
+unfolding u32Of u16Of
+number-of s h = number-small (getD s 0 0) (getD s 1 0) (getD (drop 2 s) 0 0) (getD (drop 2 s) 1 0) (h 0) (h 1)
+    (rw (getD-drop 2 s 0 0) (h 2)) (rw (getD-drop 2 s 1 0) (h 3))
+
+four-of : (s : List ℕ) → Bytes s → 4 ≤ length s → fourBytes (u32Of Big s) ≡ take 4 s
+unfolding fourBytes u32Of u16Of
+four-of [] h l = absurd (omega arith)
+four-of (a ∷ []) h l = absurd (omega arith)
+four-of (a ∷ b ∷ []) h l = absurd (omega arith)
+four-of (a ∷ b ∷ c ∷ []) h l = absurd (omega arith)
+four-of (a ∷ b ∷ c ∷ d ∷ s) h l =
+    rw (
+      byte-1 a b c d (h 0) (h 1) (h 2) (h 3),
+      byte-2 a b c d (h 0) (h 1) (h 2) (h 3),
+      byte-3 a b c d (h 0) (h 1) (h 2) (h 3),
+      byte-4 a b c d (h 0) (h 1) (h 2) (h 3),
+    )
+
+-- ---- the check
+module _ (b : List ℕ) (h : Bytes b) (some : 1 ≤ length b) where
+  but-last : b ≡ take (length b - 1) b ++ getD b (length b - 1) 0 ∷ []
+  but-last =
+      let e : suc (length b - 1) ≡ length b = omega arith in
+      sym (take-all (suc (length b - 1)) b (omega arith)) ∙ take-suc b (length b - 1) 0 (omega arith)
+
+  check-is : (s : List ℕ) (y : ℕ) → y < 256 → checks (s ++ y ∷ []) ≡ true → checkOf s ≡ y
+  unfolding checkOf
+  check-is s y l e = omega (arith, sum-snoc s y, eqb-true (sum (s ++ y ∷ []) % 256) 0 e)
+
+  -- bytes whose check is right are those before it, checked
+  whole : checks b ≡ true → (s : List ℕ) → s ≡ take (length b - 1) b → checked s ≡ b
+  unfolding checked
+  whole e s es =
+      let z : b ≡ s ++ getD b (length b - 1) 0 ∷ [] = rw es but-last in
+      let y : checkOf s ≡ getD b (length b - 1) 0 =
+      check-is s (getD b (length b - 1) 0) (h (length b - 1)) (ap checks (sym z) ∙ e) in
+      rw y (sym z)
+
+-- ---- the parts at their places
+bytes-from : (b : List ℕ) → Bytes b → (n : ℕ) → Bytes (drop n b)
+bytes-from b h n i = rw (getD-drop n b i 0) (h (n + i))
+
+-- one part more
+grow : (b : List ℕ) (n m : ℕ) (x y : List ℕ) → x ≡ take n b → y ≡ take m (drop n b) → x ++ y ≡ take (n + m) b
+grow b n m x y ex ey = rw (ex, ey, take-add n m b)
+
+-- a byte
+one-at : (b : List ℕ) (at k : ℕ) → at < length b → k ≡ getD b at 0 → k ∷ [] ≡ take 1 (drop at b)
+one-at b at k l e =
+    let z : 0 < length (drop at b) = omega (arith, length-drop at b) in
+    rw (take-suc (drop at b) 0 0 z, getD-drop at b 0 0, add-zero at, e)
+
+module _ (b : List ℕ) (h : Bytes b) where
+  number-at : (at : ℕ) → at + 4 ≤ length b → fourBytes (numberAt b at) ≡ take 4 (drop at b)
+  number-at at l = four-of (drop at b) (bytes-from b h at) (omega (arith, length-drop at b))
+
+  size-at : (at : ℕ) → at + 8 ≤ length b → sizeBytes (sizeAt b at) ≡ take 8 (drop at b)
+  unfolding sizeAt
+  size-at at l =
+      grow (drop at b) 4 4 (fourBytes (numberAt b at)) (fourBytes (numberAt b (at + 4))) (number-at at (omega arith))
+      (rw (drop-drop 4 at b) (number-at (at + 4) (omega arith)))
+
+  size-numbers : (at : ℕ) → SizeNumbers (sizeAt b at)
+  unfolding sizeAt
+  size-numbers at = (number-of (drop at b) (bytes-from b h at), number-of (drop (at + 4) b) (bytes-from b h (at + 4)))
+
+-- ---- a load's flags and sizes
+and-both : (a b : Bool) → (a && b) ≡ true → (a ≡ true) × (b ≡ true)
+and-both true b h = (refl, h)
+and-both false b h = absurd (false≢true h)
+
+no-sides : (w h : ℕ) → w ≡ 0 → h ≡ 0 → _≡_ {A = Size} record { width = 0; height = 0 } record { width = w; height = h }
+no-sides w h e f = rw (e, f)
+
+sides-are : (g : Bool) (s : Size) → sidesAgree g s ≡ true → sidesOf (optional g s) ≡ s
+unfolding sidesAgree optional
+sides-are true s e = refl
+sides-are false s e =
+    let z = and-both (eqb (s .width) 0) (eqb (s .height) 0) e in
+    no-sides (s .width) (s .height) (eqb-true (s .width) 0 (z .0)) (eqb-true (s .height) 0 (z .1))
+
+given-is : (g : Bool) (s : Size) → isGiven (optional g s) ≡ g
+unfolding optional
+given-is true s = refl
+given-is false s = refl
+
+flags-are : (f : ℕ) → f ≤ 3 → cond (eqb (f % 2) 1) 1 0 + cond (leb 2 f) 2 0 ≡ f
+flags-are zero h = refl
+flags-are (suc zero) h = refl
+flags-are (suc (suc zero)) h = refl
+flags-are (suc (suc (suc zero))) h = refl
+flags-are (suc (suc (suc (suc f)))) h = absurd (omega arith)
+
+-- ---- a line whose check is right
+abbrev Told : List ℕ → Call → Type 0
+Told b x = (x ≡ Malformed) ⊎ Spells b x
+
+by-test : (b : List ℕ) (t : Bool) (x y : Call) → (t ≡ true → Told b x) → (t ≡ false → Told b y) → Told b (cond t x y)
+by-test b true x y f g = f refl
+by-test b false x y f g = g refl
+
+module _ (b : List ℕ) (h : Bytes b) (right : checks b ≡ true) where
+  two-bytes : (k : ℕ) → k ≡ getD b 0 0 → length b ≡ 2 → checked (k ∷ []) ≡ b
+  two-bytes k c l = whole b h (omega arith) right (k ∷ []) (rw l (one-at b 0 k (omega arith) c))
+
+  -- a call of two bytes
+  plain : (x : Call) → (length b ≡ 2 → Spells b x) → Told b (ofLength 2 b x)
+  plain x f = by-test b (eqb (length b) 2) x Malformed (λ e. inr (f (eqb-true (length b) 2 e))) (λ e. inl refl)
+
+  turn : 3 ≡ getD b 0 0 → Told b (ofLength 2 b Turn)
+  unfolding body
+  turn c = plain Turn (λ l. record { can-be = (refl, refl); so = two-bytes 3 c l })
+
+  mirror : 4 ≡ getD b 0 0 → Told b (ofLength 2 b Mirror)
+  unfolding body
+  mirror c = plain Mirror (λ l. record { can-be = (refl, refl); so = two-bytes 4 c l })
+
+  back : 5 ≡ getD b 0 0 → Told b (ofLength 2 b Back)
+  unfolding body
+  back c = plain Back (λ l. record { can-be = (refl, refl); so = two-bytes 5 c l })
+
+  list : 6 ≡ getD b 0 0 → Told b (ofLength 2 b ListPoints)
+  unfolding body
+  list c = plain ListPoints (λ l. record { can-be = (refl, refl); so = two-bytes 6 c l })
+
+  -- a cut
+  cut-body : (k : ℕ) → k ≡ getD b 0 0 → length b ≡ 18
+      → k ∷ [] ++ fourBytes (numberAt b 1) ++ fourBytes (numberAt b 5) ++ fourBytes (numberAt b 9) ++ fourBytes (numberAt b 13)
+      ≡ take 17 b
+  cut-body k c l =
+      grow b 13 4 _ _
+      (grow b 9 4 _ _
+      (grow b 5 4 _ _ (grow b 1 4 _ _ (one-at b 0 k (omega arith) c) (number-at b h 1 (omega arith))) (number-at b h 5 (omega arith)))
+      (number-at b h 9 (omega arith)))
+      (number-at b h 13 (omega arith))
+
+  cut : 2 ≡ getD b 0 0 → Told b (cutOf b)
+  unfolding cutOf body
+  cut c =
+      by-test b (eqb (length b) 18) (Cut (numberAt b 1) (numberAt b 5) (numberAt b 9) (numberAt b 13)) Malformed
+      (λ e.
+      let l = eqb-true (length b) 18 e in
+      inr
+      (record {
+        can-be = (
+          number-of (drop 1 b) (bytes-from b h 1),
+          number-of (drop 5 b) (bytes-from b h 5),
+          number-of (drop 9 b) (bytes-from b h 9),
+          number-of (drop 13 b) (bytes-from b h 13),
+          (refl, refl),
+        );
+        so = whole b h (omega arith) right _ (rw l (cut-body 2 c l));
+      }))
+      (λ e. inl refl)
+
+  -- a fit
+  fit-body : (k : ℕ) → k ≡ getD b 0 0 → length b ≡ 10 → k ∷ [] ++ sizeBytes (sizeAt b 1) ≡ take 9 b
+  fit-body k c l = grow b 1 8 _ _ (one-at b 0 k (omega arith) c) (size-at b h 1 (omega arith))
+
+  fit : 7 ≡ getD b 0 0 → Told b (fitOf b)
+  unfolding fitOf body
+  fit c =
+      by-test b (eqb (length b) 10) (Fit (sizeAt b 1)) Malformed
+      (λ e.
+      let l = eqb-true (length b) 10 e in
+      inr
+      (record {
+        can-be = (size-numbers b h 1, (refl, refl));
+        so = whole b h (omega arith) right _ (rw l (fit-body 7 c l));
+      }))
+      (λ e. inl refl)
+
+  -- contents
+  contents-body : (k : ℕ) → k ≡ getD b 0 0 → 2 ≤ length b → k ∷ [] ++ contentsPart b ≡ take (length b - 1) b
+  unfolding contentsPart
+  contents-body k c l =
+      let e : length b - 1 ≡ 1 + (length b - 2) = omega arith in
+      rw e (grow b 1 (length b - 2) _ _ (one-at b 0 k (omega arith) c) refl)
+
+  contents : 8 ≡ getD b 0 0 → Told b (contentsOf b)
+  unfolding contentsOf body
+  contents c =
+      by-test b (leb 2 (length b)) Contents Malformed
+      (λ e.
+      let l = leb-true 2 (length b) e in
+      inr (record { can-be = refl; so = whole b h (omega arith) right _ (contents-body 8 c l) }))
+      (λ e. inl refl)
+
+  -- a load
+  module _ (c : 1 ≡ getD b 0 0) (long : 20 + modelLength b ≤ length b) where
+    model-long : length (modelPart b) ≡ modelLength b
+    unfolding modelPart
+    model-long = length-take-le (modelLength b) (drop 19 b) (omega (arith, length-drop 19 b))
+
+    load-front : (f n : ℕ) (s t : Size) → f ≡ flags b → s ≡ sizeAt b 2 → t ≡ sizeAt b 10 → n ≡ modelLength b
+        → 1 ∷ f ∷ [] ++ sizeBytes s ++ sizeBytes t ++ n ∷ [] ≡ take 19 b
+    load-front f n s t ef es et en =
+        rw (es, et)
+        (grow b 18 1 _ _
+        (grow b 10 8 _ _
+        (grow b 2 8 _ _
+        (grow b 1 1 (1 ∷ []) (f ∷ []) (one-at b 0 1 (omega arith) c) (one-at b 1 f (omega arith) ef))
+        (size-at b h 2 (omega arith)))
+        (size-at b h 10 (omega arith)))
+        (one-at b 18 n (omega arith) en))
+
+    load-body : (x : List ℕ) → x ≡ take 19 b → x ++ modelPart b ++ blockPart b ≡ take (length b - 1) b
+    unfolding modelPart blockPart
+    load-body x e =
+        let l : length b - 1 ≡ 19 + modelLength b + (length b - (20 + modelLength b)) = omega arith in
+        rw l
+        (grow b (19 + modelLength b) (length b - (20 + modelLength b)) _ _ (grow b 19 (modelLength b) _ _ e refl) refl)
+
+    load-spells : flags b ≤ 3 → sidesAgree (hasRaw b) (sizeAt b 2) ≡ true → sidesAgree (hasPicture b) (sizeAt b 10) ≡ true
+        → Spells b (Load (optional (hasRaw b) (sizeAt b 2)) (optional (hasPicture b) (sizeAt b 10)))
+    unfolding body
+    load-spells few raw picture =
+        let es : sidesOf (optional (hasRaw b) (sizeAt b 2)) ≡ sizeAt b 2 = sides-are (hasRaw b) (sizeAt b 2) raw in
+        let et : sidesOf (optional (hasPicture b) (sizeAt b 10)) ≡ sizeAt b 10 = sides-are (hasPicture b) (sizeAt b 10) picture in
+        let ef : flagByte (optional (hasRaw b) (sizeAt b 2)) (optional (hasPicture b) (sizeAt b 10)) ≡ flags b =
+        rw (given-is (hasRaw b) (sizeAt b 2), given-is (hasPicture b) (sizeAt b 10)) (flags-are (flags b) few) in
+        record {
+          can-be = (rw es (size-numbers b h 2), rw et (size-numbers b h 10), rw model-long (h 18));
+          so = whole b h (omega arith) right _ (load-body _ (load-front _ _ _ _ ef es et model-long));
+        }
+
+  load : 1 ≡ getD b 0 0 → Told b (loadOf b)
+  unfolding loadOf isLoad
+  load c =
+      by-test b (isLoad b) (Load (optional (hasRaw b) (sizeAt b 2)) (optional (hasPicture b) (sizeAt b 10))) Malformed
+      (λ e.
+      let x = and-both (leb (20 + modelLength b) (length b)) _ e in
+      let y = and-both (leb (flags b) 3) _ (x .1) in
+      let z = and-both (sidesAgree (hasRaw b) (sizeAt b 2)) _ (y .1) in
+      inr
+      (load-spells c (leb-true (20 + modelLength b) (length b) (x .0)) (leb-true (flags b) 3 (y .0)) (z .0) (z .1)))
+      (λ e. inl refl)
+
+  -- ---- every code
+  coded : (k : ℕ) → k ≡ getD b 0 0 → Told b (byCode k b)
+  unfolding byCode
+  coded k c =
+      by-test b (eqb k 1) _ _ (λ e. load (sym (eqb-true k 1 e) ∙ c))
+      (λ _. by-test b (eqb k 2) _ _ (λ e. cut (sym (eqb-true k 2 e) ∙ c))
+      (λ _. by-test b (eqb k 3) _ _ (λ e. turn (sym (eqb-true k 3 e) ∙ c))
+      (λ _. by-test b (eqb k 4) _ _ (λ e. mirror (sym (eqb-true k 4 e) ∙ c))
+      (λ _. by-test b (eqb k 5) _ _ (λ e. back (sym (eqb-true k 5 e) ∙ c))
+      (λ _. by-test b (eqb k 6) _ _ (λ e. list (sym (eqb-true k 6 e) ∙ c))
+      (λ _. by-test b (eqb k 7) _ _ (λ e. fit (sym (eqb-true k 7 e) ∙ c))
+      (λ _. by-test b (eqb k 8) _ _ (λ e. contents (sym (eqb-true k 8 e) ∙ c)) (λ _. inl refl))))))))
+
+pub read-is-spelled : ReadIsSpelled
+unfolding callOf
+read-is-spelled b h = by-test b (checks b) (byCode (getD b 0 0) b) Malformed (λ e. coded b h e (getD b 0 0) refl) (λ e. inl refl)

@@ -1,0 +1,20 @@
+-- `model_of`: the part of the bytes that the length byte tells. Assumes nothing.
+use Rattle.calls.proofs.Laws as laws
+use borrow.Author.Needs.{needs}
+use Rattle.calls.proofs.model_of.Statement.{statement}
+use Rattle.calls.proofs.model_of.Tie as tie
+
+tail-requires : tie.Need-tail-requires
+tail-requires c κs = search needs
+
+model-length-requires : tie.Need-model-length-requires
+model-length-requires c κs = search needs
+
+head-requires : tie.Need-head-requires
+head-requires c κs = search needs
+
+returns : tie.Need-returns
+returns c = laws.model-part _ _ _ _ (c .before .model-length .ensures .0) (c .before .before .tail .ensures) (c .head .ensures)
+
+pub model-of-spec : {M : Type 1} → statement M
+model-of-spec = tie.close (tie.spec tail-requires model-length-requires head-requires returns)

@@ -1,0 +1,211 @@
+// The call that the bytes of a line spell, and the parts of the bytes that it is given.
+use hex::is_checked;
+use reading::geometry::OptionalSize;
+use reading::geometry::Size;
+use reading::io::ByteOrder;
+use reading::io::head;
+use reading::io::tail;
+use reading::io::u8_at;
+use reading::io::u32_of;
+ghost use mathlib.Core.Path.{_≡_};
+ghost use Prim.Native.Nat.{_-_, _<_};
+ghost use Rattle.calls.specs.Format.{numberAt, sizeAt, sidesAgree, optional, modelLength, isLoad, loadOf};
+ghost use Rattle.calls.specs.Format.{ofLength, cutOf, fitOf, contentsOf, byCode, callOf, modelPart, blockPart, contentsPart};
+
+// How a line's bytes read; what a load or contents is given besides stands in the bytes, see model_of, block_of, contents_block.
+pub enum Call {
+    Malformed,
+    Load {
+        raw: OptionalSize,
+        picture: OptionalSize,
+    },
+    Cut {
+        left: u32,
+        top: u32,
+        width: u32,
+        height: u32,
+    },
+    Turn,
+    Mirror,
+    Back,
+    ListPoints,
+    Fit {
+        size: Size,
+    },
+    Contents,
+}
+
+// `a` less `b`, 0 where `b` is more.
+fn less(a: usize, b: usize) -> usize
+    ensures { λ r. ⌜ r ≡ a - b ⌝ }
+{
+    if b <= a { a - b } else { 0 }
+}
+
+// The 32-bit number at `at`.
+fn number_at(b: &[u8], at: usize) -> u32
+    ensures { λ r. ⌜ r ≡ numberAt (now (b .entry)) at ⌝ }
+{
+    u32_of(tail(b, at), ByteOrder::Big)
+}
+
+// The width and the height at `at`.
+fn size_at(b: &[u8], at: usize) -> Size
+    ensures { λ r. ⌜ r ≡ sizeAt (now (b .entry)) at ⌝ }
+{
+    let width = number_at(b, at);
+    let height = number_at(tail(b, at), 4);
+    Size { width, height }
+}
+
+// Whether a size is given, or has sides 0.
+fn sides_agree(given: bool, s: Size) -> bool
+    ensures { λ r. ⌜ r ≡ sidesAgree given s ⌝ }
+{
+    given || (s.width == 0 && s.height == 0)
+}
+
+// The length of a load's model.
+fn model_length(b: &[u8]) -> usize
+    ensures { λ r. ⌜ (r ≡ modelLength (now (b .entry))) × (r < 256) ⌝ }
+{
+    u8_at(b, 18) as usize
+}
+
+// `s` where it is given.
+fn optional_size(given: bool, s: Size) -> OptionalSize
+    ensures { λ r. ⌜ r ≡ optional given s ⌝ }
+{
+    if given {
+        return OptionalSize::Given(s);
+    }
+    OptionalSize::Missing
+}
+
+// Whether the bytes have a load's length, flags and sizes.
+fn is_load(b: &[u8]) -> bool
+    ensures { λ r. ⌜ r ≡ isLoad (now (b .entry)) ⌝ }
+{
+    let flags = u8_at(b, 1);
+    let model = model_length(b);
+    if b.len() < 20 + model {
+        return false;
+    }
+    if 3 < flags {
+        return false;
+    }
+    if !sides_agree(flags % 2 == 1, size_at(b, 2)) {
+        return false;
+    }
+    sides_agree(2 <= flags, size_at(b, 10))
+}
+
+// A load, where the bytes spell one.
+fn load_of(b: &[u8]) -> Call
+    ensures { λ r. ⌜ r ≡ loadOf (now (b .entry)) ⌝ }
+{
+    if !is_load(b) {
+        return Call::Malformed;
+    }
+    let flags = u8_at(b, 1);
+    let raw = optional_size(flags % 2 == 1, size_at(b, 2));
+    let picture = optional_size(2 <= flags, size_at(b, 10));
+    Call::Load { raw, picture }
+}
+
+// `call`, where there are `n` bytes.
+fn of_length(n: usize, b: &[u8], call: Call) -> Call
+    ensures { λ r. ⌜ r ≡ ofLength n (now (b .entry)) call ⌝ }
+{
+    if b.len() == n {
+        return call;
+    }
+    Call::Malformed
+}
+
+// A cut, where the bytes spell one.
+fn cut_of(b: &[u8]) -> Call
+    ensures { λ r. ⌜ r ≡ cutOf (now (b .entry)) ⌝ }
+{
+    let left = number_at(b, 1);
+    let top = number_at(b, 5);
+    let width = number_at(b, 9);
+    let height = number_at(b, 13);
+    of_length(
+        18,
+        b,
+        Call::Cut {
+            left,
+            top,
+            width,
+            height,
+        },
+    )
+}
+
+// A fit, where the bytes spell one.
+fn fit_of(b: &[u8]) -> Call
+    ensures { λ r. ⌜ r ≡ fitOf (now (b .entry)) ⌝ }
+{
+    let size = size_at(b, 1);
+    of_length(10, b, Call::Fit { size })
+}
+
+// Contents, where there are a code and a check.
+fn contents_of(b: &[u8]) -> Call
+    ensures { λ r. ⌜ r ≡ contentsOf (now (b .entry)) ⌝ }
+{
+    if 2 <= b.len() {
+        return Call::Contents;
+    }
+    Call::Malformed
+}
+
+// The call of a code.
+fn by_code(code: u8, b: &[u8]) -> Call
+    ensures { λ r. ⌜ r ≡ byCode code (now (b .entry)) ⌝ }
+{
+    match code {
+        1 => load_of(b),
+        2 => cut_of(b),
+        3 => of_length(2, b, Call::Turn),
+        4 => of_length(2, b, Call::Mirror),
+        5 => of_length(2, b, Call::Back),
+        6 => of_length(2, b, Call::ListPoints),
+        7 => fit_of(b),
+        8 => contents_of(b),
+        _ => Call::Malformed,
+    }
+}
+
+// The call that the bytes of a line spell, the check at their end included.
+pub fn call_of(b: &[u8]) -> Call
+    ensures { λ r. ⌜ r ≡ callOf (now (b .entry)) ⌝ }
+{
+    if !is_checked(b) {
+        return Call::Malformed;
+    }
+    by_code(u8_at(b, 0), b)
+}
+
+// A load's model.
+pub fn model_of(b: &[u8]) -> &[u8]
+    ensures { λ r. ⌜ now r ≡ modelPart (now (b .entry)) ⌝ }
+{
+    head(tail(b, 19), model_length(b))
+}
+
+// A load's block: what is left before the check.
+pub fn block_of(b: &[u8]) -> &[u8]
+    ensures { λ r. ⌜ now r ≡ blockPart (now (b .entry)) ⌝ }
+{
+    let model = model_length(b);
+    head(tail(b, 19 + model), less(b.len(), 20 + model))
+}
+
+// The block that contents is given: what lies between the code and the check.
+pub fn contents_block(b: &[u8]) -> &[u8]
+    ensures { λ r. ⌜ now r ≡ contentsPart (now (b .entry)) ⌝ }
+{
+    head(tail(b, 1), less(b.len(), 2))
+}

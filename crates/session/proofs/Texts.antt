@@ -1,0 +1,180 @@
+-- The text of each answer is what the functions of `text` put: one law for each return of this crate. A listing has 39 points at the
+-- most (a usable sheet's count bounds it), contents four tags, so no text is longer than 2,700 characters. Assumes nothing.
+use Prim.Native.Nat.{ℕ, _+_, _≤_, min}
+use mathlib.Core.Bool.{Bool, true, false, cond}
+use mathlib.Core.List.{List, [], _∷_, _++_}
+use mathlib.Core.Logic.{⊎-elim}
+use mathlib.Core.Path.{_≡_, refl, sym, ap, _∙_}
+use lib.Dec.{eqb}
+use lib.ListN.{length, replicate}
+use native.Mathlib.Nat.{min-eq-left}
+use native.Mathlib.Omega.{arith}
+use borrow.Author.Tests.{eq-eqb, ne-eqb}
+use Rattle.text.specs.Answers.{okText, noText, tagsText, headText, pointsText}
+use Rattle.text.specs.Put.{Put}
+use Rattle.text.proofs.Laws.{Puts, joins, at-most}
+use Rattle.text.proofs.Lists.{by-bool}
+use Rattle.reading.specs.Outcome.{Outcome, refused, accepted}
+use Rattle.reading.specs.Block.{blockOf, findOf, isKept}
+use Rattle.reading.specs.Focus.{modeNumber}
+use Rattle.reading.specs.Contents.{contentsNumber, contentsOf, contentsIn, fourTags, keptAmong, keptTags}
+use Rattle.reading.specs.declared.io.ByteOrder.{ByteOrder}
+use Rattle.reading.specs.declared.geometry.Size.{Size}
+use Rattle.reading.specs.declared.geometry.OptionalSize.{OptionalSize}
+use Rattle.reading.specs.declared.nikon.TagList.{TagList}
+use Rattle.reading.specs.declared.nikon.ContentsAnswer.the-variants as contents-answers
+use Rattle.fitting.specs.Fit.{hasZeroSide}
+use Rattle.placing.specs.Load.{originNumber}
+use Rattle.placing.specs.Focus.{focusOf}
+use Rattle.calls.specs.declared.Call.{Call as Parsed}
+use Rattle.calls.specs.Format.{callOf}
+use Rattle.sheet.specs.declared.Sheet.{Sheet}
+use Rattle.sheet.specs.declared.Edited.{Edited}
+use Rattle.sheet.specs.declared.Loaded.{Loaded}
+use Rattle.sheet.specs.declared.list.Listing.{Listing}
+use Rattle.sheet.specs.declared.list.ListAnswer.{ListAnswer}
+use Rattle.sheet.specs.declared.list.ListAnswer.the-variants.{Empty, ZeroBox, Short, Listed}
+use Rattle.sheet.specs.Sheet.{usable, editNumber, loadNumber, loadSheet, backSheet, presentFrame}
+use Rattle.sheet.specs.Listing.{listNumber, headNumbers, listing, listed, listCount, listIndex, isShort, headIn, listAnswer, listBuffer, fitAnswer, fitBuffer}
+use Rattle.sheet.proofs.Listed.{listing-length}
+use Rattle.sheet.proofs.Usable.{Counts, usable-told}
+use Rattle.journal.specs.Journal.{Change, Answer}
+use Rattle.journal.specs.Calls.{Call, load, change, back, list, fit, numbered, given, edited, loaded, changed, sheetStep}
+use Rattle.session.specs.declared.Stepped.{Stepped}
+use Rattle.session.specs.Lines.{Spelled, contents, asks, spelledBy, spelledIn, lentBuffer, givenText, outcomeText, answerText, tagListText, mostText, fewPoints, Answers}
+
+module _ {o o₁ : List ℕ} {a a₁ : ℕ} where
+  -- ---- a number
+  pub outcome-ok : (n : ℕ) → n ≡ 0 → Put o a okText o₁ a₁ → Puts o a (outcomeText (numbered n []) []) 14 o₁ a₁
+  unfolding givenText
+  outcome-ok n e p = rw (eq-eqb n 0 e) (p, omega arith)
+
+  pub outcome-no : (n : ℕ) → (n ≡ 0 → ⊥) → Puts o a (noText n) 14 o₁ a₁ → Puts o a (outcomeText (numbered n []) []) 14 o₁ a₁
+  outcome-no n e p = rw (ne-eqb n 0 e) p
+
+  -- ---- a listing
+  pub list-no : (x y : ListAnswer) (ws : List ℕ) (n : ℕ) → x ≡ y → listNumber y ≡ n → (n ≡ 0 → ⊥) → Puts o a (noText n) 14 o₁ a₁
+      → Puts o a (outcomeText (numbered (listNumber x) (given x)) ws) mostText o₁ a₁
+  list-no x y ws n e f z p = rw (e, f, ne-eqb n 0 z) (at-most p (omega arith))
+
+  pub list-yes : (x : ListAnswer) (ws : List ℕ) (l : Listing) → x ≡ Listed l → Puts o a (givenText (headNumbers l) ws) mostText o₁ a₁
+      → Puts o a (outcomeText (numbered (listNumber x) (given x)) ws) mostText o₁ a₁
+  unfolding listNumber
+  list-yes x ws l e p = rw e p
+
+  pub listing-text : {o₂ : List ℕ} {a₂ : ℕ} (l : Listing) (ws hs : List ℕ) → hs ≡ headNumbers l → l .count ≤ 39 → Puts o a (headText hs) 99 o₁ a₁
+      → Puts o₁ a₁ (pointsText ws (min (l .count) 39)) 2574 o₂ a₂ → Puts o a (givenText (headNumbers l) ws) mostText o₂ a₂
+  unfolding givenText headNumbers
+  listing-text l ws hs e h p q = at-most (joins (rw e at p) (rw (min-eq-left h) at q)) (omega arith)
+
+  -- ---- contents
+  pub contents-no : (r : TagList) → r .answer ≡ contents-answers.Unreadable → Puts o a (noText 1) 14 o₁ a₁ → Puts o a (tagListText r) mostText o₁ a₁
+  unfolding tagListText
+  contents-no r e p = rw e (at-most p (omega arith))
+
+  pub contents-yes : (r : TagList) → r .answer ≡ contents-answers.Listed → r .count ≤ 4 → Puts o a (tagsText (min (r .count) 4) (r .tags)) 60 o₁ a₁
+      → Puts o a (tagListText r) mostText o₁ a₁
+  unfolding tagListText
+  contents-yes r e h p = rw e (at-most (rw (min-eq-left h) at p) (omega arith))
+
+  -- ---- cut, turn, mirror and back
+  pub edit-text : (e : Edited) (n : ℕ) → n ≡ editNumber (e .answer) → Puts o a (outcomeText (numbered n []) []) 14 o₁ a₁
+      → Puts o a (answerText (edited e .0)) mostText o₁ a₁
+  edit-text e n f p = at-most (rw f at p) (omega arith)
+
+-- ---- the numbers of a head
+pub head-is : (l : Listing) (m n : ℕ) → m ≡ modeNumber (l .mode) → n ≡ originNumber (l .origin)
+    → (l .frame .width ∷ l .frame .height ∷ l .count ∷ l .index ∷ m ∷ n ∷ []) ≡ headNumbers l
+unfolding headNumbers
+head-is l m n e f = rw (e, f)
+
+-- ---- few points, few tags
+few-listed : (s : Sheet) (f : Size) (u : Bool) → usable s ≡ u → u ≡ true → fewPoints (Listed (headIn f s))
+unfolding headIn listCount listIndex listed
+few-listed s f u e h =
+    let c = usable-told s (e ∙ h) in
+    (omega (arith, c .points, listing-length s (s .count)), omega (arith, c .points, c .primary, listing-length s (s .primary)))
+
+pub few-list : (s : Sheet) (m : ℕ) (x : ListAnswer) → x ≡ listAnswer s m → fewPoints x
+unfolding listAnswer
+few-list s m x e =
+    rw e
+    (⊎-elim
+    (λ (h : usable s ≡ true).
+    rw h (⊎-elim (λ (g : isShort s m ≡ true). rw g tt) (λ (g : isShort s m ≡ false). rw g (few-listed s (presentFrame s) true h refl)) (by-bool (isShort s m))))
+    (λ (h : usable s ≡ false). rw h tt)
+    (by-bool (usable s)))
+
+pub few-fit : (s : Sheet) (box : Size) (m : ℕ) (x : ListAnswer) → x ≡ fitAnswer s box m → fewPoints x
+unfolding fitAnswer
+few-fit s box m x e =
+    rw e
+    (⊎-elim
+    (λ (h : usable s ≡ true).
+    rw h
+    (⊎-elim
+    (λ (z : hasZeroSide box ≡ true). rw z tt)
+    (λ (z : hasZeroSide box ≡ false).
+    rw z (⊎-elim (λ (g : isShort s m ≡ true). rw g tt) (λ (g : isShort s m ≡ false). rw g (few-listed s box true h refl)) (by-bool (isShort s m))))
+    (by-bool (hasZeroSide box))))
+    (λ (h : usable s ≡ false). rw h tt)
+    (by-bool (usable s)))
+
+pub few-of-listed : (x : ListAnswer) (l : Listing) → x ≡ Listed l → fewPoints x → (l .count ≤ 39) × (l .index ≤ 39)
+few-of-listed x l e h = rw e at h
+
+kept-few : (o : ByteOrder) (s ts : List ℕ) → length (keptAmong o s ts) ≤ length ts
+unfolding keptAmong
+kept-few o s [] = omega arith
+kept-few o s (t ∷ ts) =
+    ⊎-elim
+    (λ (h : isKept (findOf o s t) ≡ true). rw h (omega (arith, kept-few o s ts)))
+    (λ (h : isKept (findOf o s t) ≡ false). rw h (omega (arith, kept-few o s ts)))
+    (by-bool (isKept (findOf o s t)))
+
+few-tags : (b : Outcome ByteOrder) (s : List ℕ) → contentsIn b s .count ≤ 4
+unfolding contentsIn keptTags
+few-tags (refused n) s = omega arith
+few-tags (accepted o) s = kept-few o s fourTags
+
+pub contents-few : (s : List ℕ) (r : TagList) → r ≡ contentsOf s → r .count ≤ 4
+contents-few s r e = rw e (few-tags (blockOf s) s)
+
+-- ---- what answering leaves
+module _ {o o₁ : List ℕ} {a a₁ : ℕ} (s : Sheet) where
+  pub answered-contents : (block : List ℕ) (r : TagList) → r ≡ contentsOf block → Puts o a (tagListText r) mostText o₁ a₁
+      → Answers s (contents block) o a o₁ (record { sheet = s; at = a₁ })
+  answered-contents block r e p = let q = rw e at p in record { left = refl; put = q .0; short = q .1 }
+
+  pub answered-list : (x : ListAnswer) (z ws : List ℕ) → z ≡ lentBuffer → x ≡ listAnswer s (length z) → ws ≡ listBuffer s z
+      → Puts o a (outcomeText (numbered (listNumber x) (given x)) ws) mostText o₁ a₁
+      → Answers s (asks (list lentBuffer)) o a o₁ (record { sheet = s; at = a₁ })
+  unfolding sheetStep
+  answered-list x z ws ez ex ew p = let q = rw (ex, ew, ez) at p in record { left = refl; put = q .0; short = q .1 }
+
+  pub answered-fit : (box : Size) (x : ListAnswer) (z ws : List ℕ) → z ≡ lentBuffer → x ≡ fitAnswer s box (length z) → ws ≡ fitBuffer s box z
+      → Puts o a (outcomeText (numbered (listNumber x) (given x)) ws) mostText o₁ a₁
+      → Answers s (asks (fit box lentBuffer)) o a o₁ (record { sheet = s; at = a₁ })
+  unfolding sheetStep
+  answered-fit box x z ws ez ex ew p = let q = rw (ex, ew, ez) at p in record { left = refl; put = q .0; short = q .1 }
+
+  pub answered-load : (r : Loaded) (block model bl md : List ℕ) (raw picture : OptionalSize) (n : ℕ) → bl ≡ block → md ≡ model
+      → r ≡ loadSheet s (focusOf bl raw picture md) → n ≡ loadNumber (r .answer) → Puts o a (outcomeText (numbered n []) []) 14 o₁ a₁
+      → Answers s (asks (load block raw picture model)) o a o₁ (record { sheet = r .sheet; at = a₁ })
+  unfolding sheetStep
+  answered-load r block model bl md raw picture n eb em er en p =
+      let e : r ≡ loadSheet s (focusOf block raw picture model) = er ∙ rw (eb, em) in
+      let q = rw (en ∙ ap (λ (x : Loaded). loadNumber (x .answer)) e) at p in
+      record { left = ap (λ (x : Loaded). x .sheet) e; put = q .0; short = omega (arith, q .1) }
+
+module _ {o o₁ : List ℕ} {a : ℕ} (s : Sheet) {r : Stepped} where
+  pub answered-edit : (c : Call) (e : Edited) → edited e ≡ sheetStep s c
+      → (r .sheet ≡ e .sheet) × Put o a (answerText (edited e .0)) o₁ (r .at) × (length (answerText (edited e .0)) ≤ mostText)
+      → Answers s (asks c) o a o₁ r
+  answered-edit c e f p =
+      record { left = p .0 ∙ ap (λ (x : Answer × Sheet). x .1) f; put = rw (← f) (p .1); short = rw (← f) (p .2) }
+
+  pub by-call : (b : List ℕ) (k : Parsed) (x : Spelled) → k ≡ callOf b → spelledBy b k ≡ x → Answers s x o a o₁ r
+      → Answers s (spelledIn b) o a o₁ r
+  unfolding spelledIn
+  by-call b k x e f p = rw (← e, f) p

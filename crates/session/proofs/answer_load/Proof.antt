@@ -1,0 +1,40 @@
+-- `answer_load`: the sheet's load of the parts of the bytes. Assumes nothing.
+use mathlib.Core.Path.{_≡_, refl, sym, ap, _∙_}
+use native.Mathlib.Omega.{arith}
+use Rattle.session.proofs.Texts as texts
+use borrow.Author.Needs.{needs}
+use Rattle.session.proofs.answer_load.Statement.{statement}
+use Rattle.session.proofs.answer_load.Tie as tie
+
+block-of-requires : tie.Need-block-of-requires
+block-of-requires c κs = search needs
+
+model-of-requires : tie.Need-model-of-requires
+model-of-requires c κs = search needs
+
+load-requires : tie.Need-load-requires
+load-requires c κs = search needs
+
+load-number-requires : tie.Need-load-number-requires
+load-number-requires c κs = search needs
+
+put-outcome-requires : tie.Need-put-outcome-requires
+put-outcome-requires c κs = search needs
+
+same-length : tie.Need-same-length
+same-length c = search needs
+
+returns : tie.Need-returns
+returns c = texts.answered-load _ _ _ _ _ _ _ _ _ (c .before .before .before .before .before .before .before .before .block-of .ensures) (c .before .before .before .before .before .before .before .model-of .ensures) (c .before .before .before .before .before .before .load .ensures) (c .before .before .before .before .load-number .ensures) (c .before .before .before .put-outcome .ensures)
+
+pub answer-load-spec : {M : Type 1} → statement M
+answer-load-spec =
+    tie.close
+    (tie.spec
+    block-of-requires
+    model-of-requires
+    load-requires
+    load-number-requires
+    put-outcome-requires
+    same-length
+    returns)

@@ -1,0 +1,62 @@
+-- `put_each`: the loop's invariant is that the first i tags are put, 11 characters a tag at the most. Assumes nothing.
+use Rattle.text.proofs.Laws as laws
+use Rattle.text.proofs.Lines as lines
+use native.Mathlib.Omega.{arith}
+use borrow.Author.Needs.{needs}
+use Prim.Native.Nat.{_≤_, _-_, _*_}
+use Rattle.text.specs.Answers.{nextAll}
+use Rattle.text.proofs.put_each.Statement.{statement}
+use Rattle.text.proofs.put_each.Tie as tie
+
+abbrev Inv-loop : tie.InvT-loop
+Inv-loop out₀ at tags n after₀ i₀ t7 out after i = (i ≤ n) × laws.Puts out₀ at (nextAll tags i) (i * 11) out after
+
+abbrev μ-loop : tie.MeasureT-loop
+μ-loop out₀ at tags n after₀ i₀ t7 out after i = n - i
+
+loop-holds : tie.Need-loop-holds Inv-loop μ-loop
+loop-holds c = (omega arith, lines.tags-none _ _ _ (omega arith) (omega arith))
+
+slice-aggregate-put-pair : tie.Need-slice-aggregate-put-pair Inv-loop μ-loop
+slice-aggregate-put-pair c = search needs
+
+tag-at-requires : tie.Need-tag-at-requires Inv-loop μ-loop
+tag-at-requires c κs = tt
+
+cast-put-pair : tie.Need-cast-put-pair Inv-loop μ-loop
+cast-put-pair c = search needs
+
+put-pair-requires : tie.Need-put-pair-requires Inv-loop μ-loop
+put-pair-requires c κs = tt
+
+add-i : tie.Need-add-i Inv-loop μ-loop
+add-i c = omega arith
+
+loop-less : tie.Need-loop-less Inv-loop μ-loop
+loop-less c = omega arith
+
+loop-again : tie.Need-loop-again Inv-loop μ-loop
+loop-again c = (omega arith, lines.tags-more _ _ (c .before .before .before .tag-at .ensures) (c .before .before .before .before .before .before .before .loop .inv .1) (c .before .before .put-pair .ensures))
+
+same-length : tie.Need-same-length Inv-loop μ-loop
+same-length c = laws.put-same (c .before .loop .inv .1 .0)
+
+returns : tie.Need-returns Inv-loop μ-loop
+returns c = lines.tags-done _ _ _ (omega arith) (c .before .before .before .before .pre) (c .before .loop .inv .1)
+
+pub put-each-spec : {M : Type 1} → statement M
+put-each-spec =
+    tie.close
+    (tie.spec
+    Inv-loop
+    μ-loop
+    loop-holds
+    slice-aggregate-put-pair
+    tag-at-requires
+    cast-put-pair
+    put-pair-requires
+    add-i
+    loop-less
+    loop-again
+    same-length
+    returns)

@@ -1,0 +1,27 @@
+-- `put_no`: the word, the number and the feed, joined. Assumes nothing.
+use Rattle.text.proofs.Laws as laws
+use Rattle.text.proofs.Lines as lines
+use mathlib.Core.Path.{_∙_}
+use borrow.Author.Needs.{needs}
+use Rattle.text.proofs.put_no.Statement.{statement}
+use Rattle.text.proofs.put_no.Tie as tie
+
+slice-aggregate-put-pair : tie.Need-slice-aggregate-put-pair
+slice-aggregate-put-pair c = search needs
+
+put-pair-requires : tie.Need-put-pair-requires
+put-pair-requires c κs = tt
+
+put-byte-requires : tie.Need-put-byte-requires
+put-byte-requires c κs = tt
+
+same-length : tie.Need-same-length
+same-length c = laws.put-same (c .before .before .put-byte .ensures) ∙ laws.put-same (c .before .before .before .before .before .before .put-pair .ensures .0)
+
+returns : tie.Need-returns
+returns c = lines.no-line _ (c .before .before .before .before .before .before .put-pair .ensures) (c .before .before .put-byte .ensures)
+
+pub put-no-spec : {M : Type 1} → statement M
+put-no-spec =
+    tie.close
+    (tie.spec slice-aggregate-put-pair put-pair-requires put-byte-requires same-length returns)

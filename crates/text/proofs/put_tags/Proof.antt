@@ -1,0 +1,44 @@
+-- `put_tags`: the count, the tags and the feed, joined. Assumes nothing.
+use Rattle.text.proofs.Laws as laws
+use Rattle.text.proofs.Lines as lines
+use mathlib.Core.Path.{_∙_}
+use borrow.Author.Needs.{needs}
+use Rattle.text.proofs.put_tags.Statement.{statement}
+use Rattle.text.proofs.put_tags.Tie as tie
+
+smaller-requires : tie.Need-smaller-requires
+smaller-requires c κs = tt
+
+slice-aggregate-put-pair : tie.Need-slice-aggregate-put-pair
+slice-aggregate-put-pair c = search needs
+
+cast-put-pair : tie.Need-cast-put-pair
+cast-put-pair c = search needs
+
+put-pair-requires : tie.Need-put-pair-requires
+put-pair-requires c κs = tt
+
+put-each-requires : tie.Need-put-each-requires
+put-each-requires c κs = search needs
+
+put-byte-requires : tie.Need-put-byte-requires
+put-byte-requires c κs = tt
+
+same-length : tie.Need-same-length
+same-length c = laws.put-same (c .before .before .put-byte .ensures) ∙ laws.put-same (c .before .before .before .before .before .before .put-each .ensures .0) ∙ laws.put-same (c .before .before .before .before .before .before .before .before .before .before .put-pair .ensures .0)
+
+returns : tie.Need-returns
+returns c = lines.tags-line _ _ _ (c .before .before .before .before .before .before .before .before .before .before .before .before .before .smaller .ensures) (c .before .before .before .before .before .before .before .before .before .before .put-pair .ensures) (c .before .before .before .before .before .before .put-each .ensures) (c .before .before .put-byte .ensures)
+
+pub put-tags-spec : {M : Type 1} → statement M
+put-tags-spec =
+    tie.close
+    (tie.spec
+    smaller-requires
+    slice-aggregate-put-pair
+    cast-put-pair
+    put-pair-requires
+    put-each-requires
+    put-byte-requires
+    same-length
+    returns)
