@@ -1,0 +1,307 @@
+-- Laws of the contracts: what is held grows by a character; a run of characters, then a line, then lines one after the other are taken
+-- as the one piece that they make up (`takes-join`); while there is room for an answer the text of a line finds room (`goes-more`), so
+-- that no answer is cut; and feeding gets on where the buffer has room for one answer (`progress`). Assumes nothing.
+use Prim.Native.Nat.{ℕ, _+_, _-_, _<_, _≤_, min}
+use mathlib.Core.Path.{_≡_, refl, sym, ap, _∙_}
+use mathlib.Core.Bool.{Bool, true, false, not}
+use mathlib.Core.List.{List, [], _∷_, _++_}
+use mathlib.Core.Logic.{⊎-elim, _⊎_, inl, inr}
+use lib.Dec.{eqb, leb}
+use lib.ListN.{length, take, drop, getD, set, length-append, length-drop}
+use lib.Seq.{take-suc, take-all, take-add, take-suc-set, take-append-le, length-take-le}
+use native.Mathlib.Omega.{arith}
+use native.Mathlib.Numerals.{add-one}
+use borrow.Author.Tests.{ne-eqb, leb-true, leb-false, le-leb, lt-leb, not-true, not-false}
+use Rattle.text.specs.Put.{Put}
+use Rattle.text.proofs.Lists.{by-order}
+use Rattle.text.proofs.Laws.{put-none, put-same, put-room, join}
+use Rattle.sheet.specs.declared.Sheet.{Sheet}
+use Rattle.session.specs.declared.Stepped.{Stepped}
+use Rattle.session.specs.Lines.{spelled, sheetText, sheetNext, mostText, Answers}
+use Rattle.stream.specs.declared.Fed.{Fed}
+use Rattle.stream.specs.Stream.{kept, heldAfter, sheetAfter, textIn, lastText, Takes, Feeds, Quiet, Runs, Lines}
+use Rattle.stream.proofs.Pieces.{held-app, sheet-app, text-app, held-feed, sheet-feed, text-feed, held-char, sheet-char, text-char, held-nil, sheet-nil, text-nil}
+
+-- ---- room for an answer
+pub no-room : (len at : ℕ) → len < at → false ≡ leb (at + mostText) len
+no-room len at h = sym (lt-leb (at + mostText) len (omega arith))
+
+pub room-left : (len at : ℕ) → at ≤ len → leb mostText (len - at) ≡ leb (at + mostText) len
+room-left len at h =
+    ⊎-elim
+    (λ (g : len < at + mostText). rw (lt-leb mostText (len - at) (omega arith), lt-leb (at + mostText) len g))
+    (λ (g : at + mostText ≤ len). rw (le-leb mostText (len - at) (omega arith), le-leb (at + mostText) len g))
+    (by-order len (at + mostText))
+
+-- ---- one more character is held, or the line is full
+pub take-keep : (l : List ℕ) (n b : ℕ) → n < length l → take (n + 1) (set l n b) ≡ kept (length l) (take n l) b
+take-keep l n b h =
+    let e : length (take n l ++ (b ∷ [])) ≤ length l = omega (arith, length-append (take n l) (b ∷ []), length-take-le n l (omega arith)) in
+    rw (add-one, take-suc-set l n b h, take-all (length l) (take n l ++ (b ∷ [])) e)
+
+pub take-full : (l : List ℕ) (n b : ℕ) → length l ≤ n → n ≤ length l → take n l ≡ kept (length l) (take n l) b
+take-full l n b h g =
+    let e : n ≡ length l = omega arith in
+    rw (e, take-all (length l) l (omega arith), take-append-le (length l) l (b ∷ []) (omega arith), take-all (length l) l (omega arith))
+
+-- ---- a run of characters
+pub quiet-none : (l : List ℕ) (n : ℕ) → n ≤ length l → Quiet l n [] l n
+quiet-none l n h =
+    record {
+      holds = sym (held-nil (length l) (take n l));
+      stays = λ s. sheet-nil (length l) s (take n l);
+      still = λ s. text-nil (length l) s (take n l);
+      few = h;
+      long = refl;
+    }
+
+module _ {l₀ t l : List ℕ} {h n : ℕ} (q : Quiet l₀ h t l n) (b : ℕ) (other : b ≡ 10 → ⊥) where
+  char-holds : kept (length l) (take n l) b ≡ heldAfter (length l₀) (take h l₀) (t ++ (b ∷ []))
+  char-holds =
+      rw (q .long, q .holds)
+      (sym (held-char (length l₀) (heldAfter (length l₀) (take h l₀) t) b other) ∙ sym (held-app (length l₀) (take h l₀) t (b ∷ [])))
+
+  char-stays : (s : Sheet) → sheetAfter (length l₀) s (take h l₀) (t ++ (b ∷ [])) ≡ s
+  char-stays s =
+      sheet-app (length l₀) s (take h l₀) t (b ∷ []) ∙
+      sheet-char (length l₀) (sheetAfter (length l₀) s (take h l₀) t) (heldAfter (length l₀) (take h l₀) t) b other ∙
+      q .stays s
+
+  char-still : (s : Sheet) → textIn (length l₀) s (take h l₀) (t ++ (b ∷ [])) ≡ []
+  char-still s =
+      text-app (length l₀) s (take h l₀) t (b ∷ []) ∙
+      rw (q .still s) (text-char (length l₀) (sheetAfter (length l₀) s (take h l₀) t) (heldAfter (length l₀) (take h l₀) t) b other)
+
+  quiet-char : {l₁ : List ℕ} {n₁ : ℕ} → take n₁ l₁ ≡ kept (length l) (take n l) b → n₁ ≤ length l → length l₁ ≡ length l → Quiet l₀ h (t ++ (b ∷ [])) l₁ n₁
+  quiet-char k f e =
+      record { holds = k ∙ char-holds; stays = char-stays; still = char-still; few = omega arith; long = e ∙ q .long }
+
+pub quiet-more : {l₀ l l₁ : List ℕ} {h n n₁ : ℕ} (input : List ℕ) (i : ℕ) → i < length input → (getD input i 0 ≡ 10 → ⊥) → Quiet l₀ h (take i input) l n
+    → take n₁ l₁ ≡ kept (length l) (take n l) (getD input i 0) → n₁ ≤ length l → length l₁ ≡ length l → Quiet l₀ h (take (i + 1) input) l₁ n₁
+quiet-more input i g other q k f e = rw (add-one, take-suc input i 0 g) (quiet-char q (getD input i 0) other k f e)
+
+pub run-ends : {l₀ l : List ℕ} {h : ℕ} (input : List ℕ) (k n : ℕ) → k ≤ length input → Quiet l₀ h (take k input) l n → (k < length input → getD input k 0 ≡ 10)
+    → Runs l₀ h input l (record { held = n; used = k })
+run-ends input k n f q e = record { part = f; quiet = q; ends = e }
+
+-- ---- characters one after the other
+pub takes-none : (s : Sheet) (l o : List ℕ) (n a : ℕ) → n ≤ length l → a ≤ 18446744073709551615 → length o ≤ 18446744073709551615
+    → Takes s l n [] o a o l (record { sheet = s; held = n; at = a; used = 0 })
+takes-none s l o n a h g k =
+    record {
+      left = sym (sheet-nil (length l) s (take n l));
+      holds = sym (held-nil (length l) (take n l));
+      put = rw (text-nil (length l) s (take n l)) (put-none o a g k);
+      few = h;
+      long = refl;
+    }
+
+module _ (m : ℕ) (s : Sheet) (h t u : List ℕ) (m₁ : ℕ) (em : m₁ ≡ m) (s₁ : Sheet) (es : s₁ ≡ sheetAfter m s h t) (h₁ : List ℕ) (eh : h₁ ≡ heldAfter m h t) where
+  pub then-held : heldAfter m₁ h₁ u ≡ heldAfter m h (t ++ u)
+  then-held = rw (em, eh, held-app m h t u)
+
+  pub then-sheet : sheetAfter m₁ s₁ h₁ u ≡ sheetAfter m s h (t ++ u)
+  then-sheet = rw (em, eh, es, sheet-app m s h t u)
+
+  then-text : textIn m s h t ++ textIn m₁ s₁ h₁ u ≡ textIn m s h (t ++ u)
+  then-text = rw (em, eh, es, text-app m s h t u)
+
+module _ {s : Sheet} {l₀ t u o₀ o l o₁ l₁ : List ℕ} {n a : ℕ} {r r₁ : Fed} (p : Takes s l₀ n t o₀ a o l r) (q : Takes (r .sheet) l (r .held) u o (r .at) o₁ l₁ r₁) where
+  -- the text of both
+  join-text : textIn (length l₀) s (take n l₀) t ++ textIn (length l) (r .sheet) (take (r .held) l) u ≡ textIn (length l₀) s (take n l₀) (t ++ u)
+  join-text = then-text (length l₀) s (take n l₀) t u (length l) (p .long) (r .sheet) (p .left) (take (r .held) l) (p .holds)
+
+  takes-join : Takes s l₀ n (t ++ u) o₀ a o₁ l₁ r₁
+  takes-join =
+      record {
+        left = q .left ∙ then-sheet (length l₀) s (take n l₀) t u (length l) (p .long) (r .sheet) (p .left) (take (r .held) l) (p .holds);
+        holds = q .holds ∙ then-held (length l₀) s (take n l₀) t u (length l) (p .long) (r .sheet) (p .left) (take (r .held) l) (p .holds);
+        put = rw (← join-text) (join (p .put) (q .put));
+        few = q .few;
+        long = q .long ∙ p .long;
+      }
+
+-- ---- a line
+module _ {l₀ t l : List ℕ} {h n : ℕ} (q : Quiet l₀ h t l n) (s : Sheet) where
+  end-sheet : sheetAfter (length l₀) s (take h l₀) (t ++ (10 ∷ [])) ≡ sheetNext s (spelled (take n l))
+  end-sheet = sheet-app (length l₀) s (take h l₀) t (10 ∷ []) ∙ rw (q .stays s, ← q .holds) (sheet-feed (length l₀) s (take n l))
+
+  end-text : textIn (length l₀) s (take h l₀) (t ++ (10 ∷ [])) ≡ sheetText s (spelled (take n l))
+  end-text =
+      text-app (length l₀) s (take h l₀) t (10 ∷ []) ∙
+      rw (q .still s, q .stays s, ← q .holds) (text-feed (length l₀) s (take n l))
+
+  end-held : heldAfter (length l₀) (take h l₀) (t ++ (10 ∷ [])) ≡ []
+  end-held = held-app (length l₀) (take h l₀) t (10 ∷ []) ∙ held-feed (length l₀) (heldAfter (length l₀) (take h l₀) t)
+
+  end-takes : {o o₁ : List ℕ} {a : ℕ} {st : Stepped} (k : ℕ) → Answers s (spelled (take n l)) o a o₁ st
+      → Takes s l₀ h (t ++ (10 ∷ [])) o a o₁ l (record { sheet = st .sheet; held = 0; at = st .at; used = k })
+  end-takes k x =
+      record {
+        left = x .left ∙ sym end-sheet;
+        holds = sym end-held;
+        put = rw end-text (x .put);
+        few = omega arith;
+        long = q .long;
+      }
+
+-- a line that ends
+pub line-ends : {s : Sheet} {l₀ l o o₁ : List ℕ} {h a : ℕ} {st : Stepped} (input : List ℕ) (k n : ℕ) → k < length input → getD input k 0 ≡ 10
+    → Quiet l₀ h (take k input) l n → Answers s (spelled (take n l)) o a o₁ st
+    → Lines s l₀ h input o a o₁ l (record { sheet = st .sheet; held = 0; at = st .at; used = k + 1 })
+line-ends {s} {l₀} {l} {o} {o₁} {h} {a} {st} input k n g c q x =
+    let e : take (k + 1) input ≡ take k input ++ (10 ∷ []) = rw (add-one, take-suc input k 0 g, c) in
+    record {
+      part = omega arith;
+      some = λ z. omega arith;
+      taken = rw e (end-takes q s (k + 1) x);
+      short = rw (e, end-text q s) (x .short);
+    }
+
+-- a line that goes on past the piece
+pub line-goes-on : {s : Sheet} {l₀ l : List ℕ} {h : ℕ} (o : List ℕ) (a : ℕ) (input : List ℕ) (k n : ℕ) → k ≤ length input → length input ≤ k
+    → Quiet l₀ h (take k input) l n → a ≤ 18446744073709551615 → length o ≤ 18446744073709551615
+    → Lines s l₀ h input o a o l (record { sheet = s; held = n; at = a; used = k })
+line-goes-on {s} o a input k n f g q x y =
+    record {
+      part = f;
+      some = λ z. omega arith;
+      taken =
+          record {
+            left = sym (q .stays s);
+            holds = q .holds;
+            put = rw (q .still s) (put-none o a x y);
+            few = q .few;
+            long = q .long;
+          };
+      short = rw (q .still s) (omega arith);
+    }
+
+-- ---- lines one after the other: i characters of a piece are taken, and from a place in the buffer all of the text has found room
+pub record Goes (s : Sheet) (l₀ : List ℕ) (n : ℕ) (input o₀ : List ℕ) (a₀ : ℕ) (o l : List ℕ) (r : Fed) (i : ℕ) : Type 0 where
+  pub counted : length input ≤ 18446744073709551615
+  pub part : i ≤ length input
+  pub taken : Takes s l₀ n (take i input) o₀ a₀ o l r
+  pub room : a₀ ≤ length o₀ → a₀ + length (textIn (length l₀) s (take n l₀) (take i input)) ≤ length o₀
+
+pub goes-none : (s : Sheet) (l input o : List ℕ) (n a : ℕ) → length input ≤ 18446744073709551615 → n ≤ length l → a ≤ 18446744073709551615 → length o ≤ 18446744073709551615
+    → Goes s l n input o a o l (record { sheet = s; held = n; at = a; used = 0 }) 0
+goes-none s l input o n a c h g k =
+    record {
+      counted = c;
+      part = omega arith;
+      taken = takes-none s l o n a h g k;
+      room = λ z. rw (text-nil (length l) s (take n l)) (omega arith);
+    }
+
+-- a place that leaves room for a text and a bound on a further one
+room-for : (ts us : List ℕ) (a₀ a m k : ℕ) → a ≡ a₀ + length ts → a + m ≤ k → length us ≤ m → a₀ + length (ts ++ us) ≤ k
+room-for ts us a₀ a m k e h f = rw (length-append ts us) (omega arith)
+
+-- what is left of a piece
+pub rest-all : (input : List ℕ) (i : ℕ) → take (length input - i) (drop i input) ≡ drop i input
+rest-all input i = take-all (length input - i) (drop i input) (omega (arith, length-drop i input))
+
+module _ {s : Sheet} {l₀ o₀ o l o₁ l₁ : List ℕ} {n a₀ : ℕ} {r r₁ : Fed} (input : List ℕ) (i : ℕ) (p : Goes s l₀ n input o₀ a₀ o l r i) where
+  goes-rest : r .at + mostText ≤ length o → Lines (r .sheet) l (r .held) (drop i input) o (r .at) o₁ l₁ r₁
+      → Goes s l₀ n input o₀ a₀ o₁ l₁ r₁ (i + r₁ .used)
+  goes-rest f q =
+      record {
+        counted = p .counted;
+        part = omega (arith, p .part, q .part, length-drop i input);
+        taken = rw (take-add i (r₁ .used) input) (takes-join (p .taken) (q .taken));
+        room =
+            λ h.
+            rw (take-add i (r₁ .used) input, ← join-text (p .taken) (q .taken))
+            (room-for (textIn (length l₀) s (take n l₀) (take i input)) (textIn (length l) (r .sheet) (take (r .held) l) (take (r₁ .used) (drop i input))) a₀ (r .at) mostText (length o₀) (put-room (p .taken .put) (p .room h)) (omega (arith, f, put-same (p .taken .put))) (q .short));
+      }
+
+  -- one more line
+  pub goes-more : (b : Bool) → b ≡ leb (r .at + mostText) (length o) → not b ≡ false → Lines (r .sheet) l (r .held) (take (length input - i) (drop i input)) o (r .at) o₁ l₁ r₁
+      → Goes s l₀ n input o₀ a₀ o₁ l₁ r₁ (i + r₁ .used)
+  goes-more b e f q = goes-rest (leb-true (r .at + mostText) (length o) (sym e ∙ not-false b f)) (rw (rest-all input i) at q)
+
+  pub goes-far : i < length input → Lines (r .sheet) l (r .held) (take (length input - i) (drop i input)) o (r .at) o₁ l₁ r₁ → (0 < r₁ .used) × (i + r₁ .used ≤ length input)
+  goes-far f q =
+      let q₁ : Lines (r .sheet) l (r .held) (drop i input) o (r .at) o₁ l₁ r₁ = rw (rest-all input i) at q in
+      (q₁ .some (omega (arith, f, length-drop i input)), omega (arith, f, q₁ .part, length-drop i input))
+
+module _ {s : Sheet} {l₀ o₀ o l : List ℕ} {n a₀ : ℕ} {r : Fed} (input : List ℕ) (i : ℕ) (p : Goes s l₀ n input o₀ a₀ o l r i) where
+  feeds-so-far : ((i ≡ length input) ⊎ (length o₀ < r .at + mostText))
+      → Feeds s l₀ n input o₀ a₀ o l (record { sheet = r .sheet; held = r .held; at = r .at; used = i })
+  feeds-so-far g =
+      record {
+        part = p .part;
+        taken = record { left = p .taken .left; holds = p .taken .holds; put = p .taken .put; few = p .taken .few; long = p .taken .long };
+        whole = λ h. (put-room (p .taken .put) (p .room h), omega (arith, put-room (p .taken .put) (p .room h), p .room h));
+        goes = g;
+      }
+
+  -- to the end of the piece, or until there is no room for an answer
+  pub feeds-all : length input ≤ i → Feeds s l₀ n input o₀ a₀ o l (record { sheet = r .sheet; held = r .held; at = r .at; used = i })
+  feeds-all h = feeds-so-far (inl (omega (arith, h, p .part)))
+
+  pub feeds-some : (b : Bool) → b ≡ leb (r .at + mostText) (length o) → not b ≡ true
+      → Feeds s l₀ n input o₀ a₀ o l (record { sheet = r .sheet; held = r .held; at = r .at; used = i })
+  feeds-some b e f =
+      feeds-so-far (inr (omega (arith, leb-false (r .at + mostText) (length o) (sym e ∙ not-true b f), put-same (p .taken .put))))
+
+-- ---- of a line, no more is held than it has
+pub take-least : (l : List ℕ) (n k : ℕ) → k ≡ min n (length l) → take n l ≡ take k l
+take-least l n k e =
+    ⊎-elim
+    (λ (h : n < length l). let z : k ≡ n = omega arith in rw z)
+    (λ (h : length l ≤ n).
+    let z : k ≡ length l = omega arith in
+    rw (z, take-all (length l) l (omega arith), take-all n l h))
+    (by-order n (length l))
+
+pub feeds-any : {s : Sheet} {l t o o₁ l₁ : List ℕ} {a : ℕ} {r : Fed} (n k : ℕ) → k ≡ min n (length l) → Feeds s l k t o a o₁ l₁ r → Feeds s l n t o a o₁ l₁ r
+feeds-any {s} {l} {t} {o} {o₁} {l₁} {a} {r} n k e p =
+    let z : take n l ≡ take k l = take-least l n k e in
+    record {
+      part = p .part;
+      taken =
+          record {
+            left = rw z (p .taken .left);
+            holds = rw z (p .taken .holds);
+            put = rw z (p .taken .put);
+            few = p .taken .few;
+            long = p .taken .long;
+          };
+      whole = rw z (p .whole);
+      goes = p .goes;
+    }
+
+-- ---- the end of the input
+no-text : (s : Sheet) (l : List ℕ) (n k : ℕ) → k ≡ min n (length l) → k ≡ 0 → lastText s (take n l) ≡ []
+unfolding lastText
+no-text s l n k e z = rw (take-least l n k e, z)
+
+some-text : (s : Sheet) (l : List ℕ) (n k : ℕ) → k ≡ min n (length l) → (k ≡ 0 → ⊥) → lastText s (take n l) ≡ sheetText s (spelled (take k l))
+unfolding lastText
+some-text s l n k e f =
+    rw (take-least l n k e, ne-eqb (length (take k l)) 0 (λ z. f (sym (length-take-le k l (omega arith)) ∙ z)))
+
+pub last-none : (s : Sheet) (l o : List ℕ) (n k a : ℕ) → k ≡ min n (length l) → k ≡ 0 → a ≤ 18446744073709551615 → length o ≤ 18446744073709551615
+    → Put o a (lastText s (take n l)) o a × (length (lastText s (take n l)) ≤ mostText)
+last-none s l o n k a e z x y = (rw (no-text s l n k e z) (put-none o a x y), rw (no-text s l n k e z) (omega arith))
+
+pub last-some : {s : Sheet} {o o₁ : List ℕ} {a : ℕ} {st : Stepped} (l : List ℕ) (n k : ℕ) → k ≡ min n (length l) → (k ≡ 0 → ⊥) → Answers s (spelled (take k l)) o a o₁ st
+    → Put o a (lastText s (take n l)) o₁ (st .at) × (length (lastText s (take n l)) ≤ mostText)
+last-some {s} l n k e f x = (rw (some-text s l n k e f) (x .put), rw (some-text s l n k e f) (x .short))
+
+-- ---- feeding gets on: where the buffer has room for an answer from its start on, some of a piece is used
+pub progress : {s : Sheet} {l t o o₁ l₁ : List ℕ} {n : ℕ} {r : Fed} → Feeds s l n t o 0 o₁ l₁ r → 0 < length t → mostText ≤ length o → 0 < r .used
+progress {s} {l} {t} {o} {o₁} {l₁} {n} {r} p f g =
+    ⊎-elim
+    (λ (h : 0 < r .used). h)
+    (λ (h : r .used ≤ 0).
+    let z : r .used ≡ 0 = omega arith in
+    let e : length (textIn (length l) s (take n l) (take (r .used) t)) ≡ 0 = rw z (ap length (text-nil (length l) s (take n l))) in
+    let w : r .at ≡ 0 + length (textIn (length l) s (take n l) (take (r .used) t)) = p .whole (omega arith) .0 in
+    ⊎-elim
+    (λ (i : r .used ≡ length t). omega (arith, i, f))
+    (λ (i : length o < r .at + mostText). absurd (omega (arith, i, e, w, g)))
+    (p .goes))
+    (by-order 0 (r .used))
