@@ -1,10 +1,10 @@
 #!/usr/bin/env python3
-"""malformed.py            write the stored lines of focusdesk_lines
+"""malformed.py            write the stored lines of script_test
 malformed.py --check    say whether the files are what would be written
 
-Writes crates/focusdesk_lines/stdin: lines that are malformed in every way, and
+Writes crates/script_test/stdin: lines that are malformed in every way, and
 the well-formed ones beside them, on an empty sheet and on one with a standing
-edit, each with a list line after it; and crates/focusdesk_lines/stdout, what
+edit, each with a list line after it; and crates/script_test/stdout, what
 `focusdesk` must print. Which lines are malformed is said here, line by line;
 nothing is written if reference.py says otherwise. The last feed is missing.
 """
@@ -184,7 +184,7 @@ def main(arguments):
         if answer is not None and own != answer + "\n":
             sys.exit("%r...: here %s, the reference %s" % (line[:60], answer, own))
     given = script.text(lines, last_feed=False)
-    crate = os.path.join("crates", "focusdesk_lines")
+    crate = os.path.join("crates", "script_test")
     status = stored.write_or_check([
         (os.path.join(crate, "stdin"), given),
         (os.path.join(crate, "stdout"), reference.run_script(given).encode())], arguments)

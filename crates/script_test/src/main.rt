@@ -1,0 +1,33 @@
+// Answers the whole script of standard input at once, by script::answer, and prints the text; `short` where it does not fit. The
+// script is malformed lines of every kind between well-formed ones. No contract can say what is printed: that is held to `stdout`.
+use libc::STDIN_FILENO;
+use libc::STDOUT_FILENO;
+use script::Answered;
+ghost use mathlib.Core.Path.{_≡_};
+ghost use lib.ListN.{length};
+
+// Room for the script.
+fn script_space() -> [u8; 262144]
+    ensures { λ r. ⌜ 262144 ≡ length r ⌝ }
+{
+    [0; 262144]
+}
+
+// Answers a script into a buffer, and prints what it is answered.
+fn print_answers(script: &[u8], out: &mut [u8]) {
+    match script::answer(script, out) {
+        Answered::Short => {
+            io::write_all(STDOUT_FILENO, b"short\n");
+        }
+        Answered::Written(len) => {
+            io::write_all(STDOUT_FILENO, &out[..len]);
+        }
+    }
+}
+
+fn main() {
+    let mut script = script_space();
+    let n = io::read_full(STDIN_FILENO, &mut script);
+    let mut out = io::large_buffer();
+    print_answers(&script[..n], &mut out);
+}
