@@ -1,4 +1,4 @@
--- What is read was spelled so. The idea: a line's bytes are the parts at the format's places, one after another, and a check; four
+-- What is read was encoded so. The idea: a line's bytes are the parts at the format's places, one after another, and a check; four
 -- bytes are the bytes of the number that they say, and a byte is the check where the sum is 0. Assumes nothing.
 use Prim.Native.Nat.{ℕ, zero, suc, _+_, _*_, _-_, _/_, _%_, _<_, _≤_}
 use mathlib.Core.Bool.{Bool, true, false, _&&_, cond, false≢true}
@@ -18,8 +18,8 @@ use Rattle.hex.specs.Hex.{sum, checks}
 use Rattle.calls.specs.declared.Call.{Call}
 use Rattle.calls.specs.declared.Call.the-variants.{Malformed, Load, Cut, Turn, Mirror, Back, ListPoints, Fit, Contents}
 use Rattle.calls.specs.Format.{ofLength, numberAt, sizeAt, sidesAgree, optional, hasRaw, hasPicture, flags, modelLength, isLoad, loadOf, cutOf, fitOf, contentsOf, byCode, callOf, modelPart, blockPart, contentsPart}
-use Rattle.calls.specs.Laws.{fourBytes, sizeBytes, isGiven, flagByte, sidesOf, body, checkOf, checked, Number, SizeNumbers, Bytes, Spells, ReadIsSpelled}
-use Rattle.calls.proofs.Spelled.{sum-snoc}
+use Rattle.calls.specs.Laws.{fourBytes, sizeBytes, isGiven, flagByte, sidesOf, body, checkOf, checked, Number, SizeNumbers, Bytes, Encodes, ReadIsEncoded}
+use Rattle.calls.proofs.Encoded.{sum-snoc}
 
 -- ---- a number
 module _ (a b c d : ℕ) (ha : a < 256) (hb : b < 256) (hc : c < 256) (hd : d < 256) where
@@ -137,7 +137,7 @@ flags-are (suc (suc (suc (suc f)))) h = absurd (omega arith)
 
 -- ---- a line whose check is right
 abbrev Told : List ℕ → Call → Type 0
-Told b x = (x ≡ Malformed) ⊎ Spells b x
+Told b x = (x ≡ Malformed) ⊎ Encodes b x
 
 by-test : (b : List ℕ) (t : Bool) (x y : Call) → (t ≡ true → Told b x) → (t ≡ false → Told b y) → Told b (cond t x y)
 by-test b true x y f g = f refl
@@ -148,7 +148,7 @@ module _ (b : List ℕ) (h : Bytes b) (right : checks b ≡ true) where
   two-bytes k c l = whole b h (omega arith) right (k ∷ []) (rw l (one-at b 0 k (omega arith) c))
 
   -- a call of two bytes
-  plain : (x : Call) → (length b ≡ 2 → Spells b x) → Told b (ofLength 2 b x)
+  plain : (x : Call) → (length b ≡ 2 → Encodes b x) → Told b (ofLength 2 b x)
   plain x f = by-test b (eqb (length b) 2) x Malformed (λ e. inr (f (eqb-true (length b) 2 e))) (λ e. inl refl)
 
   turn : 3 ≡ getD b 0 0 → Told b (ofLength 2 b Turn)
@@ -255,10 +255,10 @@ module _ (b : List ℕ) (h : Bytes b) (right : checks b ≡ true) where
         rw l
         (grow b (19 + modelLength b) (length b - (20 + modelLength b)) _ _ (grow b 19 (modelLength b) _ _ e refl) refl)
 
-    load-spells : flags b ≤ 3 → sidesAgree (hasRaw b) (sizeAt b 2) ≡ true → sidesAgree (hasPicture b) (sizeAt b 10) ≡ true
-        → Spells b (Load (optional (hasRaw b) (sizeAt b 2)) (optional (hasPicture b) (sizeAt b 10)))
+    load-encodes : flags b ≤ 3 → sidesAgree (hasRaw b) (sizeAt b 2) ≡ true → sidesAgree (hasPicture b) (sizeAt b 10) ≡ true
+        → Encodes b (Load (optional (hasRaw b) (sizeAt b 2)) (optional (hasPicture b) (sizeAt b 10)))
     unfolding body
-    load-spells few raw picture =
+    load-encodes few raw picture =
         let es : sidesOf (optional (hasRaw b) (sizeAt b 2)) ≡ sizeAt b 2 = sides-are (hasRaw b) (sizeAt b 2) raw in
         let et : sidesOf (optional (hasPicture b) (sizeAt b 10)) ≡ sizeAt b 10 = sides-are (hasPicture b) (sizeAt b 10) picture in
         let ef : flagByte (optional (hasRaw b) (sizeAt b 2)) (optional (hasPicture b) (sizeAt b 10)) ≡ flags b =
@@ -277,7 +277,7 @@ module _ (b : List ℕ) (h : Bytes b) (right : checks b ≡ true) where
       let y = and-both (leb (flags b) 3) _ (x .1) in
       let z = and-both (sidesAgree (hasRaw b) (sizeAt b 2)) _ (y .1) in
       inr
-      (load-spells c (leb-true (20 + modelLength b) (length b) (x .0)) (leb-true (flags b) 3 (y .0)) (z .0) (z .1)))
+      (load-encodes c (leb-true (20 + modelLength b) (length b) (x .0)) (leb-true (flags b) 3 (y .0)) (z .0) (z .1)))
       (λ e. inl refl)
 
   -- ---- every code
@@ -293,6 +293,6 @@ module _ (b : List ℕ) (h : Bytes b) (right : checks b ≡ true) where
       (λ _. by-test b (eqb k 7) _ _ (λ e. fit (sym (eqb-true k 7 e) ∙ c))
       (λ _. by-test b (eqb k 8) _ _ (λ e. contents (sym (eqb-true k 8 e) ∙ c)) (λ _. inl refl))))))))
 
-pub read-is-spelled : ReadIsSpelled
+pub read-is-encoded : ReadIsEncoded
 unfolding callOf
-read-is-spelled b h = by-test b (checks b) (byCode (getD b 0 0) b) Malformed (λ e. coded b h e (getD b 0 0) refl) (λ e. inl refl)
+read-is-encoded b h = by-test b (checks b) (byCode (getD b 0 0) b) Malformed (λ e. coded b h e (getD b 0 0) refl) (λ e. inl refl)

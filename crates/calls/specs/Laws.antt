@@ -1,5 +1,5 @@
--- The format the other way round: how a call is spelled in bytes. The calls that are read are exactly those that are spelled, which
--- proofs/Spelled.antt (what is spelled is read back, and is bytes) and proofs/Accepted.antt (what is read was spelled so) prove.
+-- The format the other way round: how a call is encoded in bytes. The calls that are read are exactly those that are encoded, which
+-- proofs/Encoded.antt (what is encoded is read back, and is bytes) and proofs/Accepted.antt (what is read was encoded so) prove.
 use Prim.Native.Nat.{ℕ, _+_, _-_, _/_, _%_, _<_}
 use mathlib.Core.Bool.{Bool, true, false, cond}
 use mathlib.Core.List.{List, [], _∷_, _++_}
@@ -56,10 +56,10 @@ checkOf s = (256 - sum s % 256) % 256
 unfoldable pub checked : List ℕ → List ℕ
 checked s = s ++ checkOf s ∷ []
 
-abbrev pub spelled : Call → List ℕ → List ℕ → List ℕ
-spelled call model block = checked (body call model block)
+abbrev pub encoded : Call → List ℕ → List ℕ → List ℕ
+encoded call model block = checked (body call model block)
 
--- ---- what can be spelled
+-- ---- what can be encoded
 abbrev pub Number : ℕ → Type 0
 Number n = n < 4294967296
 
@@ -70,18 +70,18 @@ SizeNumbers s = Number (s .width) × Number (s .height)
 abbrev pub Alone : List ℕ → List ℕ → Type 0
 Alone model block = (model ≡ []) × (block ≡ [])
 
-abbrev pub Spellable : Call → List ℕ → List ℕ → Type 0
-Spellable Malformed model block = ⊥
-Spellable (Load raw picture) model block =
+abbrev pub Encodable : Call → List ℕ → List ℕ → Type 0
+Encodable Malformed model block = ⊥
+Encodable (Load raw picture) model block =
     SizeNumbers (sidesOf raw) × SizeNumbers (sidesOf picture) × (length model < 256)
-Spellable (Cut left top width height) model block =
+Encodable (Cut left top width height) model block =
     Number left × Number top × Number width × Number height × Alone model block
-Spellable Turn model block = Alone model block
-Spellable Mirror model block = Alone model block
-Spellable Back model block = Alone model block
-Spellable ListPoints model block = Alone model block
-Spellable (Fit size) model block = SizeNumbers size × Alone model block
-Spellable Contents model block = model ≡ []
+Encodable Turn model block = Alone model block
+Encodable Mirror model block = Alone model block
+Encodable Back model block = Alone model block
+Encodable ListPoints model block = Alone model block
+Encodable (Fit size) model block = SizeNumbers size × Alone model block
+Encodable Contents model block = model ≡ []
 
 -- ---- what is read of a line's bytes besides the call
 abbrev pub modelGiven : Call → List ℕ → List ℕ
@@ -106,30 +106,30 @@ blockGiven ListPoints b = []
 blockGiven (Fit size) b = []
 blockGiven Contents b = contentsPart b
 
--- what is spelled is read back: the call, its model and its block
+-- what is encoded is read back: the call, its model and its block
 pub record ReadBack (call : Call) (model block b : List ℕ) : Type 0 where
   pub the-call : callOf b ≡ call
   pub the-model : modelGiven call b ≡ model
   pub the-block : blockGiven call b ≡ block
 
-abbrev pub SpelledIsRead : Type 0
-SpelledIsRead =
-    (call : Call) (model block : List ℕ) → Spellable call model block → ReadBack call model block (spelled call model block)
+abbrev pub EncodedIsRead : Type 0
+EncodedIsRead =
+    (call : Call) (model block : List ℕ) → Encodable call model block → ReadBack call model block (encoded call model block)
 
 -- and is a line of bytes, where the model and the block are
 abbrev pub Bytes : List ℕ → Type 0
 Bytes b = (i : ℕ) → getD b i 0 < 256
 
-abbrev pub SpelledIsBytes : Type 0
-SpelledIsBytes =
-    (call : Call) (model block : List ℕ) → Spellable call model block → Bytes model → Bytes block
-    → Bytes (spelled call model block)
+abbrev pub EncodedIsBytes : Type 0
+EncodedIsBytes =
+    (call : Call) (model block : List ℕ) → Encodable call model block → Bytes model → Bytes block
+    → Bytes (encoded call model block)
 
--- ---- and what is read was spelled so
--- a call read of b is what b spells
-pub record Spells (b : List ℕ) (call : Call) : Type 0 where
-  pub can-be : Spellable call (modelGiven call b) (blockGiven call b)
-  pub so : spelled call (modelGiven call b) (blockGiven call b) ≡ b
+-- ---- and what is read was encoded so
+-- a call that is read of b is encoded in b
+pub record Encodes (b : List ℕ) (call : Call) : Type 0 where
+  pub can-be : Encodable call (modelGiven call b) (blockGiven call b)
+  pub so : encoded call (modelGiven call b) (blockGiven call b) ≡ b
 
-abbrev pub ReadIsSpelled : Type 0
-ReadIsSpelled = (b : List ℕ) → Bytes b → (callOf b ≡ Malformed) ⊎ Spells b (callOf b)
+abbrev pub ReadIsEncoded : Type 0
+ReadIsEncoded = (b : List ℕ) → Bytes b → (callOf b ≡ Malformed) ⊎ Encodes b (callOf b)

@@ -1,4 +1,4 @@
--- What is spelled is read back, and is bytes. The idea: the code, the flags and the numbers stand at fixed places, so what is read
+-- What is encoded is read back, and is bytes. The idea: the code, the flags and the numbers stand at fixed places, so what is read
 -- there computes; a number's four bytes give the number back, and the model and the block lie between them and the check. Assumes
 -- nothing.
 use Prim.Native.Nat.{ℕ, zero, suc, _<_, _+_, _*_, _-_, _/_, _%_}
@@ -19,7 +19,7 @@ use Rattle.hex.specs.Hex.{sum, checks}
 use Rattle.calls.specs.declared.Call.{Call}
 use Rattle.calls.specs.declared.Call.the-variants.{Malformed, Load, Cut, Turn, Mirror, Back, ListPoints, Fit, Contents}
 use Rattle.calls.specs.Format.{ofLength, sizeAt, sidesAgree, optional, isLoad, loadOf, byCode, callOf, modelPart, blockPart, contentsPart}
-use Rattle.calls.specs.Laws.{fourBytes, sizeBytes, isGiven, flagByte, sidesOf, body, checkOf, checked, spelled, Number, SizeNumbers, Spellable, ReadBack, SpelledIsRead, Bytes, SpelledIsBytes}
+use Rattle.calls.specs.Laws.{fourBytes, sizeBytes, isGiven, flagByte, sidesOf, body, checkOf, checked, encoded, Number, SizeNumbers, Encodable, ReadBack, EncodedIsRead, Bytes, EncodedIsBytes}
 use Rattle.calls.proofs.Laws as laws
 
 -- ---- the check
@@ -36,7 +36,7 @@ check-right : (s : List ℕ) → checks (checked s) ≡ true
 unfolding checked checkOf
 check-right s = eq-eqb (sum (s ++ checkOf s ∷ []) % 256) 0 (omega (arith, sum-snoc s (checkOf s)))
 
--- a spelled line is read by its code
+-- a encoded line is read by its code
 by-its-code : (s : List ℕ) (x : Call) → byCode (getD (checked s) 0 0) (checked s) ≡ x → callOf (checked s) ≡ x
 unfolding callOf
 by-its-code s x e = rw (check-right s) e
@@ -71,7 +71,7 @@ unfolding checked
 two-bytes k x e = by-its-code (k ∷ []) x (e (k ∷ checkOf (k ∷ []) ∷ []))
 
 module _ (left top width height : ℕ) (hl : Number left) (ht : Number top) (hw : Number width) (hh : Number height) where
-  cut-back : callOf (spelled (Cut left top width height) [] []) ≡ Cut left top width height
+  cut-back : callOf (encoded (Cut left top width height) [] []) ≡ Cut left top width height
   unfolding body checked byCode fourBytes
   cut-back =
       let s = body (Cut left top width height) [] [] in
@@ -84,7 +84,7 @@ module _ (left top width height : ℕ) (hl : Number left) (ht : Number top) (hw 
       (sym (number-back height z hh))
       refl))
 
-fit-back : (s : Size) → SizeNumbers s → callOf (spelled (Fit s) [] []) ≡ Fit s
+fit-back : (s : Size) → SizeNumbers s → callOf (encoded (Fit s) [] []) ≡ Fit s
 unfolding body checked byCode fourBytes
 fit-back s h =
     let t = body (Fit s) [] [] in
@@ -92,7 +92,7 @@ fit-back s h =
 
 -- ---- contents
 module _ (k : List ℕ) where
-  contents-back : callOf (spelled Contents [] k) ≡ Contents
+  contents-back : callOf (encoded Contents [] k) ≡ Contents
   unfolding body checked byCode
   contents-back =
       by-its-code (8 ∷ k) Contents
@@ -214,7 +214,7 @@ module _ (o p : OptionalSize) (m k : List ℕ) (c : ℕ) (ho : SizeNumbers (side
       )
 
 load-back : (o p : OptionalSize) (m k : List ℕ) → SizeNumbers (sidesOf o) → SizeNumbers (sidesOf p)
-    → ReadBack (Load o p) m k (spelled (Load o p) m k)
+    → ReadBack (Load o p) m k (encoded (Load o p) m k)
 unfolding body checked byCode
 load-back o p m k ho hp =
     let s = body (Load o p) m k in
@@ -225,27 +225,27 @@ load-back o p m k ho hp =
     }
 
 -- ---- every call
-pub spelled-is-read : SpelledIsRead
+pub encoded-is-read : EncodedIsRead
 unfolding body checked byCode
-spelled-is-read Malformed m k h = absurd h
-spelled-is-read (Load o p) m k h = load-back o p m k (h .0) (h .1)
-spelled-is-read (Cut left top width height) m k h =
+encoded-is-read Malformed m k h = absurd h
+encoded-is-read (Load o p) m k h = load-back o p m k (h .0) (h .1)
+encoded-is-read (Cut left top width height) m k h =
     record {
       the-call = cut-back left top width height (h .0) (h .1) (h .2) (h .3);
       the-model = sym (h .4 .0);
       the-block = sym (h .4 .1);
     }
-spelled-is-read Turn m k h =
+encoded-is-read Turn m k h =
     record { the-call = two-bytes 3 Turn (λ b. refl); the-model = sym (h .0); the-block = sym (h .1) }
-spelled-is-read Mirror m k h =
+encoded-is-read Mirror m k h =
     record { the-call = two-bytes 4 Mirror (λ b. refl); the-model = sym (h .0); the-block = sym (h .1) }
-spelled-is-read Back m k h =
+encoded-is-read Back m k h =
     record { the-call = two-bytes 5 Back (λ b. refl); the-model = sym (h .0); the-block = sym (h .1) }
-spelled-is-read ListPoints m k h =
+encoded-is-read ListPoints m k h =
     record { the-call = two-bytes 6 ListPoints (λ b. refl); the-model = sym (h .0); the-block = sym (h .1) }
-spelled-is-read (Fit s) m k h =
+encoded-is-read (Fit s) m k h =
     record { the-call = fit-back s (h .0); the-model = sym (h .1 .0); the-block = sym (h .1 .1) }
-spelled-is-read Contents m k h =
+encoded-is-read Contents m k h =
     record {
       the-call = contents-back k;
       the-model = sym h;
@@ -284,7 +284,7 @@ bytes-checked : (s : List ℕ) → All s → All (checked s)
 unfolding checked checkOf
 bytes-checked s h = bytes-append s _ h (one-byte (checkOf s) (omega arith))
 
-all-bytes : (x : Call) (m k : List ℕ) → Spellable x m k → All m → All k → All (spelled x m k)
+all-bytes : (x : Call) (m k : List ℕ) → Encodable x m k → All m → All k → All (encoded x m k)
 unfolding body
 all-bytes Malformed m k h hm hk = absurd h
 all-bytes (Load o p) m k h hm hk =
@@ -314,5 +314,5 @@ all-bytes ListPoints m k h hm hk = bytes-checked _ (one-byte 6 (omega arith))
 all-bytes (Fit s) m k h hm hk = bytes-checked _ (bytes-append _ _ (one-byte 7 (omega arith)) (bytes-size s))
 all-bytes Contents m k h hm hk = bytes-checked _ (bytes-append _ _ (one-byte 8 (omega arith)) hk)
 
-pub spelled-is-bytes : SpelledIsBytes
-spelled-is-bytes x m k h hm hk = all-bytes x m k h (record { each = hm }) (record { each = hk }) .each
+pub encoded-is-bytes : EncodedIsBytes
+encoded-is-bytes x m k h hm hk = all-bytes x m k h (record { each = hm }) (record { each = hk }) .each
