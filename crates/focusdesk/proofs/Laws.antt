@@ -1,21 +1,24 @@
 -- Serving a part of the input by feeding what is left of it, again and again, takes all of it: each feed gets on (`progress`), and what
--- the feeds take one after the other is the part. The answers of a feed lie in the buffer. Assumes nothing.
+-- the feeds take one after the other is the part. The answers of a feed lie in the buffer. Turn by turn, the sheet and the held line are
+-- those after all of the bytes that came. Assumes nothing.
 use Prim.Native.Nat.{ℕ, _+_, _-_, _<_, _≤_}
 use mathlib.Core.Path.{_≡_, refl, sym, ap, _∙_}
-use mathlib.Core.Bool.{Bool, true, false, cond}
-use mathlib.Core.List.{List}
+use mathlib.Core.Bool.{Bool, true, false, cond, not}
+use mathlib.Core.List.{List, [], _++_}
 use lib.ListN.{length, take, drop, length-drop}
 use lib.Seq.{take-all, take-add}
 use native.Mathlib.Omega.{arith}
+use borrow.Author.Tests.{not-false}
 use Rattle.text.proofs.Laws.{put-same}
 use Rattle.sheet.specs.declared.Sheet.{Sheet}
+use Rattle.sheet.specs.Sheet.{freshSheet}
 use Rattle.session.specs.Lines.{mostText}
 use Rattle.stream.specs.declared.Fed.{Fed}
 use Rattle.stream.specs.Stream.{heldAfter, sheetAfter, Feeds}
 use Rattle.stream.proofs.Pieces.{held-nil, sheet-nil}
 use Rattle.stream.proofs.Laws.{then-held, then-sheet, rest-all, progress}
 use Rattle.focusdesk.specs.declared.After.{After}
-use Rattle.focusdesk.specs.Served.{Serves}
+use Rattle.focusdesk.specs.Served.{Serves, Turns}
 
 -- i characters of a part are taken, and the buffer `o` has room for an answer
 pub record Serving (s : Sheet) (l₀ : List ℕ) (n : ℕ) (input l o : List ℕ) (f : Fed) (i : ℕ) : Type 0 where
@@ -51,17 +54,18 @@ module _ {s : Sheet} {l₀ l o o₁ l₁ : List ℕ} {n : ℕ} {f r : Fed} (inpu
         left =
             q .taken .left ∙
             rw (take-add i (r .used) input)
-            (then-sheet (length l₀) s (take n l₀) (take i input) (take (r .used) (drop i input)) (length l) (p .long) (f .sheet) (p .left) (take (f .held) l) (p .holds));
+            (then-sheet s (take n l₀) (take i input) (take (r .used) (drop i input)) (p .long) (p .left) (p .holds));
         holds =
             q .taken .holds ∙
             rw (take-add i (r .used) input)
-            (then-held (length l₀) s (take n l₀) (take i input) (take (r .used) (drop i input)) (length l) (p .long) (f .sheet) (p .left) (take (f .held) l) (p .holds));
+            (then-held s (take n l₀) (take i input) (take (r .used) (drop i input)) (p .long) (p .left) (p .holds));
         long = q .taken .long ∙ p .long;
         room = omega (arith, p .room, put-same (q .taken .put));
       }
 
   -- one more feed
-  pub serving-more : Feeds (f .sheet) l (f .held) (take (length input - i) (drop i input)) o 0 o₁ l₁ r → Serving s l₀ n input l₁ o₁ r (i + r .used)
+  pub serving-more : Feeds (f .sheet) l (f .held) (take (length input - i) (drop i input)) o 0 o₁ l₁ r
+      → Serving s l₀ n input l₁ o₁ r (i + r .used)
   serving-more q = serving-rest (rw (rest-all input i) at q)
 
   pub serving-far : i < length input → Feeds (f .sheet) l (f .held) (take (length input - i) (drop i input)) o 0 o₁ l₁ r
@@ -86,5 +90,54 @@ false-true z =
     absurd (omega (arith, e))
 
 -- a write has failed
-pub serves-not : {s s₁ : Sheet} {l₀ l : List ℕ} {n k : ℕ} (input : List ℕ) → length l ≡ length l₀ → Serves s l₀ n input l (record { sheet = s₁; held = k; more = false })
+pub serves-not : {s s₁ : Sheet} {l₀ l : List ℕ} {n k : ℕ} (input : List ℕ) → length l ≡ length l₀
+    → Serves s l₀ n input l (record { sheet = s₁; held = k; more = false })
 serves-not input e = record { left = λ z. false-true z; holds = λ z. false-true z; long = e }
+
+-- ---- a turn
+-- nothing came
+pub turns-none : (s : Sheet) (l : List ℕ) (n : ℕ) (more : Bool) → Turns s l n l (record { sheet = s; held = n; more = more })
+turns-none s l n more =
+    record {
+      came = [];
+      served =
+          record {
+            left = λ z. sym (sheet-nil (length l) s (take n l));
+            holds = λ z. sym (held-nil (length l) (take n l));
+            long = refl;
+          };
+    }
+
+-- the input has ended
+pub turns-end : {s s₁ : Sheet} {n k : ℕ} (l : List ℕ) → Turns s l n l (record { sheet = s₁; held = k; more = false })
+turns-end l = record { came = []; served = serves-not [] refl }
+
+pub turns-some : {s : Sheet} {l₀ l : List ℕ} {n : ℕ} {r : After} (input : List ℕ) → Serves s l₀ n input l r → Turns s l₀ n l r
+turns-some input p = record { came = input; served = p }
+
+-- ---- all turns: the sheet and the held line are those after all of the bytes that came
+pub record Running (l : List ℕ) (r : After) : Type 0 where
+  pub all : List ℕ
+  pub left : r .sheet ≡ sheetAfter 4097 freshSheet [] all
+  pub holds : take (r .held) l ≡ heldAfter 4097 [] all
+  pub long : length l ≡ 4097
+
+pub running-none : (s : Sheet) (l : List ℕ) → s ≡ freshSheet → 4097 ≡ length l → Running l (record { sheet = s; held = 0; more = true })
+running-none s l e h =
+    record {
+      all = [];
+      left = e ∙ sym (sheet-nil 4097 freshSheet []);
+      holds = sym (held-nil 4097 []);
+      long = sym h;
+    }
+
+pub running-more : {l l₁ : List ℕ} {r r₁ : After} → Running l r → Turns (r .sheet) l (r .held) l₁ r₁
+    → not (r₁ .more) ≡ false → Running l₁ r₁
+running-more {l} {l₁} {r} {r₁} p q e =
+    let m : r₁ .more ≡ true = not-false (r₁ .more) e in
+    record {
+      all = p .all ++ q .came;
+      left = q .served .left m ∙ then-sheet freshSheet [] (p .all) (q .came) (p .long) (p .left) (p .holds);
+      holds = q .served .holds m ∙ then-held freshSheet [] (p .all) (q .came) (p .long) (p .left) (p .holds);
+      long = q .served .long ∙ p .long;
+    }

@@ -1,5 +1,5 @@
--- What serving a part of the input leaves.
-use Prim.Native.Nat.{ℕ, _≤_}
+-- What serving a part of the input leaves, and what a turn leaves.
+use Prim.Native.Nat.{ℕ}
 use mathlib.Core.Bool.{true}
 use mathlib.Core.List.{List}
 use mathlib.Core.Path.{_≡_}
@@ -13,3 +13,8 @@ pub record Serves (s : Sheet) (line₀ : List ℕ) (held : ℕ) (input : List �
   pub left : r .more ≡ true → r .sheet ≡ sheetAfter (length line₀) s (take held line₀) input
   pub holds : r .more ≡ true → take (r .held) line ≡ heldAfter (length line₀) (take held line₀) input
   pub long : length line ≡ length line₀
+
+-- one turn: the bytes that came, none or more, are served
+pub record Turns (s : Sheet) (line₀ : List ℕ) (held : ℕ) (line : List ℕ) (r : After) : Type 0 where
+  pub came : List ℕ
+  pub served : Serves s line₀ held came line r

@@ -9,7 +9,7 @@ ghost use mathlib.Core.Path.{_≡_};
 ghost use lib.ListN.{length};
 ghost use Prim.Native.Nat.{_≤_};
 ghost use Rattle.session.specs.Lines.{mostText};
-ghost use Rattle.focusdesk.specs.Served.{Serves};
+ghost use Rattle.focusdesk.specs.Served.{Serves, Turns};
 
 // What a turn leaves: the sheet, how much of a line is held, and whether there may be more to read and to write.
 struct After {
@@ -76,6 +76,7 @@ fn finish(sheet: Sheet, line: &[u8], held: usize, out: &mut [u8])
 // Reads once and answers what came. A read that a signal interrupts is tried again; any other that fails ends the program.
 fn turn(sheet: Sheet, line: &mut [u8], held: usize, input: &mut [u8], out: &mut [u8]) -> After
     requires { ⌜ mostText ≤ length (now out) ⌝ }
+    ensures { λ r. ⌜ Turns sheet (now (line .entry)) held (now (line .exit)) r ⌝ }
 {
     let got = libc::read(STDIN_FILENO, input);
     if got < 0 {

@@ -30,9 +30,12 @@ pieces-join : (m : ℕ) (ps : List (List ℕ)) (s : Sheet) (h : List ℕ)
 unfolding piecesText joined textIn sheetAfter heldAfter
 pieces-join m [] s h = refl
 pieces-join m (p ∷ ps) s h =
-    rw (pieces-join m ps (sheetAfter m s h p) (heldAfter m h p), text-app m s h p (joined ps), sheet-app m s h p (joined ps), held-app m h p (joined ps))
+    ap (λ (t : List ℕ). textIn m s h p ++ t) (pieces-join m ps (sheetAfter m s h p) (heldAfter m h p)) ∙
+    rw (text-app m s h p (joined ps), sheet-app m s h p (joined ps), held-app m h p (joined ps))
     (sym
-    (append-assoc (textIn m s h p) (textIn m (sheetAfter m s h p) (heldAfter m h p) (joined ps)) (lastText (sheetAfter m (sheetAfter m s h p) (heldAfter m h p) (joined ps)) (heldAfter m (heldAfter m h p) (joined ps)))))
+    (append-assoc (textIn m s h p)
+    (textIn m (sheetAfter m s h p) (heldAfter m h p) (joined ps))
+    (lastText (sheetAfter m (sheetAfter m s h p) (heldAfter m h p) (joined ps)) (heldAfter m (heldAfter m h p) (joined ps)))))
 
 take-kept : (m c : ℕ) (l : List ℕ) → take m (l ++ (c ∷ [])) ≡ kept m (take m l) c
 take-kept m c l =
@@ -53,22 +56,25 @@ module _ (m : ℕ) (some : 0 < m) (cut : (line : List ℕ) → spelled (take m l
       rw (ne-eqb (length (c ∷ l)) 0 (λ z. omega arith), e, cut (c ∷ l)) (append-nil (sheetText s (spelled (c ∷ l))))
 
   pub whole : (t l : List ℕ) (s : Sheet)
-      → joined (sheetTexts s (linesFrom l t)) ≡ textIn m s (take m l) t ++ lastText (sheetAfter m s (take m l) t) (heldAfter m (take m l) t)
+      → joined (sheetTexts s (linesFrom l t))
+      ≡ textIn m s (take m l) t ++ lastText (sheetAfter m s (take m l) t) (heldAfter m (take m l) t)
   unfolding joined sheetTexts linesFrom textIn sheetAfter heldAfter
   whole [] l s = ended s l
   whole (c ∷ t) l s =
       ⊎-elim
       (λ (e : eqb c 10 ≡ true).
-      let z : joined (sheetTexts (sheetNext s (spelled l)) (linesFrom [] t)) ≡ textIn m (sheetNext s (spelled l)) [] t ++ lastText (sheetAfter m (sheetNext s (spelled l)) [] t) (heldAfter m [] t) = rw (take-nil {A = ℕ} m) at (whole t [] (sheetNext s (spelled l))) in
+      let s₁ : Sheet = sheetNext s (spelled l) in
+      let z : joined (sheetTexts s₁ (linesFrom [] t)) ≡ textIn m s₁ [] t ++ lastText (sheetAfter m s₁ [] t) (heldAfter m [] t) =
+      rw (take-nil {A = ℕ} m) at (whole t [] s₁) in
       rw (e, cut l, z)
-      (sym
-      (append-assoc (sheetText s (spelled l)) (textIn m (sheetNext s (spelled l)) [] t) (lastText (sheetAfter m (sheetNext s (spelled l)) [] t) (heldAfter m [] t)))))
+      (sym (append-assoc (sheetText s (spelled l)) (textIn m s₁ [] t) (lastText (sheetAfter m s₁ [] t) (heldAfter m [] t)))))
       (λ (e : eqb c 10 ≡ false). rw (e, ← take-kept m c l) (whole t (l ++ (c ∷ [])) s))
       (by-bool (eqb c 10))
 
 -- a script in one piece
 one-piece : (script : List ℕ)
-    → joined (sheetTexts freshSheet (linesFrom [] script)) ≡ textIn 4097 freshSheet [] script ++ lastText (sheetAfter 4097 freshSheet [] script) (heldAfter 4097 [] script)
+    → joined (sheetTexts freshSheet (linesFrom [] script))
+    ≡ textIn 4097 freshSheet [] script ++ lastText (sheetAfter 4097 freshSheet [] script) (heldAfter 4097 [] script)
 one-piece script = rw (take-nil {A = ℕ} 4097) at (whole 4097 (omega arith) line-cut script [] freshSheet)
 
 pub stream-claim : StreamClaim

@@ -6,7 +6,7 @@ use mathlib.Core.Path.{_≡_, refl, sym, ap, _∙_}
 use mathlib.Core.Bool.{Bool, true, false, not}
 use mathlib.Core.List.{List, [], _∷_, _++_}
 use mathlib.Core.Logic.{⊎-elim, _⊎_, inl, inr}
-use lib.Dec.{eqb, leb}
+use lib.Dec.{leb}
 use lib.ListN.{length, take, drop, getD, set, length-append, length-drop}
 use lib.Seq.{take-suc, take-all, take-add, take-suc-set, take-append-le, length-take-le}
 use native.Mathlib.Omega.{arith}
@@ -96,30 +96,35 @@ takes-none s l o n a h g k =
       long = refl;
     }
 
-module _ (m : ℕ) (s : Sheet) (h t u : List ℕ) (m₁ : ℕ) (em : m₁ ≡ m) (s₁ : Sheet) (es : s₁ ≡ sheetAfter m s h t) (h₁ : List ℕ) (eh : h₁ ≡ heldAfter m h t) where
-  pub then-held : heldAfter m₁ h₁ u ≡ heldAfter m h (t ++ u)
-  then-held = rw (em, eh, held-app m h t u)
+-- characters `t`, and `u` from what they left
+module _ {m m₁ : ℕ} {s₁ : Sheet} {h₁ : List ℕ} (s : Sheet) (h t u : List ℕ)
+    (em : m₁ ≡ m) (es : s₁ ≡ sheetAfter m s h t) (eh : h₁ ≡ heldAfter m h t)
+  where
+    pub then-held : heldAfter m₁ h₁ u ≡ heldAfter m h (t ++ u)
+    then-held = rw (em, eh, held-app m h t u)
 
-  pub then-sheet : sheetAfter m₁ s₁ h₁ u ≡ sheetAfter m s h (t ++ u)
-  then-sheet = rw (em, eh, es, sheet-app m s h t u)
+    pub then-sheet : sheetAfter m₁ s₁ h₁ u ≡ sheetAfter m s h (t ++ u)
+    then-sheet = rw (em, eh, es, sheet-app m s h t u)
 
-  then-text : textIn m s h t ++ textIn m₁ s₁ h₁ u ≡ textIn m s h (t ++ u)
-  then-text = rw (em, eh, es, text-app m s h t u)
+    then-text : textIn m s h t ++ textIn m₁ s₁ h₁ u ≡ textIn m s h (t ++ u)
+    then-text = rw (em, eh, es, text-app m s h t u)
 
-module _ {s : Sheet} {l₀ t u o₀ o l o₁ l₁ : List ℕ} {n a : ℕ} {r r₁ : Fed} (p : Takes s l₀ n t o₀ a o l r) (q : Takes (r .sheet) l (r .held) u o (r .at) o₁ l₁ r₁) where
-  -- the text of both
-  join-text : textIn (length l₀) s (take n l₀) t ++ textIn (length l) (r .sheet) (take (r .held) l) u ≡ textIn (length l₀) s (take n l₀) (t ++ u)
-  join-text = then-text (length l₀) s (take n l₀) t u (length l) (p .long) (r .sheet) (p .left) (take (r .held) l) (p .holds)
+module _ {s : Sheet} {l₀ t u o₀ o l o₁ l₁ : List ℕ} {n a : ℕ} {r r₁ : Fed}
+    (p : Takes s l₀ n t o₀ a o l r) (q : Takes (r .sheet) l (r .held) u o (r .at) o₁ l₁ r₁)
+  where
+    -- the text of both
+    join-text : textIn (length l₀) s (take n l₀) t ++ textIn (length l) (r .sheet) (take (r .held) l) u ≡ textIn (length l₀) s (take n l₀) (t ++ u)
+    join-text = then-text s (take n l₀) t u (p .long) (p .left) (p .holds)
 
-  takes-join : Takes s l₀ n (t ++ u) o₀ a o₁ l₁ r₁
-  takes-join =
-      record {
-        left = q .left ∙ then-sheet (length l₀) s (take n l₀) t u (length l) (p .long) (r .sheet) (p .left) (take (r .held) l) (p .holds);
-        holds = q .holds ∙ then-held (length l₀) s (take n l₀) t u (length l) (p .long) (r .sheet) (p .left) (take (r .held) l) (p .holds);
-        put = rw (← join-text) (join (p .put) (q .put));
-        few = q .few;
-        long = q .long ∙ p .long;
-      }
+    takes-join : Takes s l₀ n (t ++ u) o₀ a o₁ l₁ r₁
+    takes-join =
+        record {
+          left = q .left ∙ then-sheet s (take n l₀) t u (p .long) (p .left) (p .holds);
+          holds = q .holds ∙ then-held s (take n l₀) t u (p .long) (p .left) (p .holds);
+          put = rw (← join-text) (join (p .put) (q .put));
+          few = q .few;
+          long = q .long ∙ p .long;
+        }
 
 -- ---- a line
 module _ {l₀ t l : List ℕ} {h n : ℕ} (q : Quiet l₀ h t l n) (s : Sheet) where
@@ -184,7 +189,8 @@ pub record Goes (s : Sheet) (l₀ : List ℕ) (n : ℕ) (input o₀ : List ℕ) 
   pub taken : Takes s l₀ n (take i input) o₀ a₀ o l r
   pub room : a₀ ≤ length o₀ → a₀ + length (textIn (length l₀) s (take n l₀) (take i input)) ≤ length o₀
 
-pub goes-none : (s : Sheet) (l input o : List ℕ) (n a : ℕ) → length input ≤ 18446744073709551615 → n ≤ length l → a ≤ 18446744073709551615 → length o ≤ 18446744073709551615
+pub goes-none : (s : Sheet) (l input o : List ℕ) (n a : ℕ)
+    → length input ≤ 18446744073709551615 → n ≤ length l → a ≤ 18446744073709551615 → length o ≤ 18446744073709551615
     → Goes s l n input o a o l (record { sheet = s; held = n; at = a; used = 0 }) 0
 goes-none s l input o n a c h g k =
     record {
@@ -206,6 +212,8 @@ module _ {s : Sheet} {l₀ o₀ o l o₁ l₁ : List ℕ} {n a₀ : ℕ} {r r₁
   goes-rest : r .at + mostText ≤ length o → Lines (r .sheet) l (r .held) (drop i input) o (r .at) o₁ l₁ r₁
       → Goes s l₀ n input o₀ a₀ o₁ l₁ r₁ (i + r₁ .used)
   goes-rest f q =
+      let ts : List ℕ = textIn (length l₀) s (take n l₀) (take i input) in
+      let us : List ℕ = textIn (length l) (r .sheet) (take (r .held) l) (take (r₁ .used) (drop i input)) in
       record {
         counted = p .counted;
         part = omega (arith, p .part, q .part, length-drop i input);
@@ -213,15 +221,20 @@ module _ {s : Sheet} {l₀ o₀ o l o₁ l₁ : List ℕ} {n a₀ : ℕ} {r r₁
         room =
             λ h.
             rw (take-add i (r₁ .used) input, ← join-text (p .taken) (q .taken))
-            (room-for (textIn (length l₀) s (take n l₀) (take i input)) (textIn (length l) (r .sheet) (take (r .held) l) (take (r₁ .used) (drop i input))) a₀ (r .at) mostText (length o₀) (put-room (p .taken .put) (p .room h)) (omega (arith, f, put-same (p .taken .put))) (q .short));
+            (room-for ts us a₀ (r .at) mostText (length o₀)
+            (put-room (p .taken .put) (p .room h))
+            (omega (arith, f, put-same (p .taken .put)))
+            (q .short));
       }
 
   -- one more line
-  pub goes-more : (b : Bool) → b ≡ leb (r .at + mostText) (length o) → not b ≡ false → Lines (r .sheet) l (r .held) (take (length input - i) (drop i input)) o (r .at) o₁ l₁ r₁
-      → Goes s l₀ n input o₀ a₀ o₁ l₁ r₁ (i + r₁ .used)
-  goes-more b e f q = goes-rest (leb-true (r .at + mostText) (length o) (sym e ∙ not-false b f)) (rw (rest-all input i) at q)
+  pub goes-more : (b : Bool) → b ≡ leb (r .at + mostText) (length o) → not b ≡ false
+      → Lines (r .sheet) l (r .held) (take (length input - i) (drop i input)) o (r .at) o₁ l₁ r₁ → Goes s l₀ n input o₀ a₀ o₁ l₁ r₁ (i + r₁ .used)
+  goes-more b e f q =
+      goes-rest (leb-true (r .at + mostText) (length o) (sym e ∙ not-false b f)) (rw (rest-all input i) at q)
 
-  pub goes-far : i < length input → Lines (r .sheet) l (r .held) (take (length input - i) (drop i input)) o (r .at) o₁ l₁ r₁ → (0 < r₁ .used) × (i + r₁ .used ≤ length input)
+  pub goes-far : i < length input → Lines (r .sheet) l (r .held) (take (length input - i) (drop i input)) o (r .at) o₁ l₁ r₁
+      → (0 < r₁ .used) × (i + r₁ .used ≤ length input)
   goes-far f q =
       let q₁ : Lines (r .sheet) l (r .held) (drop i input) o (r .at) o₁ l₁ r₁ = rw (rest-all input i) at q in
       (q₁ .some (omega (arith, f, length-drop i input)), omega (arith, f, q₁ .part, length-drop i input))

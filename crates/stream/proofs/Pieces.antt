@@ -30,7 +30,8 @@ sheet-app m s h (c ∷ t) u =
     (λ (e : eqb c 10 ≡ false). rw e (sheet-app m s (kept m h c) t u))
     (by-bool (eqb c 10))
 
-pub text-app : (m : ℕ) (s : Sheet) (h t u : List ℕ) → textIn m s h (t ++ u) ≡ textIn m s h t ++ textIn m (sheetAfter m s h t) (heldAfter m h t) u
+pub text-app : (m : ℕ) (s : Sheet) (h t u : List ℕ)
+    → textIn m s h (t ++ u) ≡ textIn m s h t ++ textIn m (sheetAfter m s h t) (heldAfter m h t) u
 unfolding textIn sheetAfter heldAfter
 text-app m s h [] u = refl
 text-app m s h (c ∷ t) u =
@@ -39,7 +40,9 @@ text-app m s h (c ∷ t) u =
     rw e
     (rw (text-app m (sheetNext s (spelled h)) [] t u)
     (sym
-    (append-assoc (sheetText s (spelled h)) (textIn m (sheetNext s (spelled h)) [] t) (textIn m (sheetAfter m (sheetNext s (spelled h)) [] t) (heldAfter m [] t) u)))))
+    (append-assoc (sheetText s (spelled h))
+    (textIn m (sheetNext s (spelled h)) [] t)
+    (textIn m (sheetAfter m (sheetNext s (spelled h)) [] t) (heldAfter m [] t) u)))))
     (λ (e : eqb c 10 ≡ false). rw e (text-app m s (kept m h c) t u))
     (by-bool (eqb c 10))
 

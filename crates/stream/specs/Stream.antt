@@ -41,19 +41,22 @@ lastText s h = cond (eqb (length h) 0) [] (sheetText s (spelled h))
 
 -- the characters `t`, taken by a sheet that holds the first `held` characters of `line₀`, which has room for m: the sheet, what is held
 -- of the line, and the text at its place in the buffer
-pub record Takes (s : Sheet) (line₀ : List ℕ) (held : ℕ) (t : List ℕ) (before : List ℕ) (at : ℕ) (after : List ℕ) (line : List ℕ) (r : Fed) : Type 0 where
+pub record Takes (s : Sheet) (line₀ : List ℕ) (held : ℕ) (t : List ℕ)
+    (before : List ℕ) (at : ℕ) (after : List ℕ) (line : List ℕ) (r : Fed) : Type 0 where
   pub left : r .sheet ≡ sheetAfter (length line₀) s (take held line₀) t
   pub holds : take (r .held) line ≡ heldAfter (length line₀) (take held line₀) t
   pub put : Put before at (textIn (length line₀) s (take held line₀) t) after (r .at)
   pub few : r .held ≤ length line
   pub long : length line ≡ length line₀
 
--- a piece `input` handed to such a sheet: so much of it is used, and taken as above. A place in the buffer leaves room for all of the
--- text, so that no answer is cut; and it goes on to the piece's end, unless the buffer has no room for another answer
-pub record Feeds (s : Sheet) (line₀ : List ℕ) (held : ℕ) (input : List ℕ) (before : List ℕ) (at : ℕ) (after : List ℕ) (line : List ℕ) (r : Fed) : Type 0 where
+-- a piece `input` handed to such a sheet: so much of it is used, and taken as above. From a place in the buffer on, all of the text finds
+-- room: no answer is cut. And it goes on to the piece's end, unless the buffer may have no room for another answer
+pub record Feeds (s : Sheet) (line₀ : List ℕ) (held : ℕ) (input : List ℕ)
+    (before : List ℕ) (at : ℕ) (after : List ℕ) (line : List ℕ) (r : Fed) : Type 0 where
   pub part : r .used ≤ length input
   pub taken : Takes s line₀ held (take (r .used) input) before at after line r
-  pub whole : at ≤ length before → (r .at ≡ at + length (textIn (length line₀) s (take held line₀) (take (r .used) input))) × (r .at ≤ length before)
+  pub whole : at ≤ length before
+      → (r .at ≡ at + length (textIn (length line₀) s (take held line₀) (take (r .used) input))) × (r .at ≤ length before)
   pub goes : (r .used ≡ length input) ⊎ (length before < r .at + mostText)
 
 -- ---- inside
@@ -72,7 +75,8 @@ pub record Runs (line₀ : List ℕ) (held : ℕ) (input : List ℕ) (line : Lis
   pub ends : r .used < length input → getD input (r .used) 0 ≡ 10
 
 -- one line of a piece, its feed included, or what there is of it
-pub record Lines (s : Sheet) (line₀ : List ℕ) (held : ℕ) (input : List ℕ) (before : List ℕ) (at : ℕ) (after : List ℕ) (line : List ℕ) (r : Fed) : Type 0 where
+pub record Lines (s : Sheet) (line₀ : List ℕ) (held : ℕ) (input : List ℕ)
+    (before : List ℕ) (at : ℕ) (after : List ℕ) (line : List ℕ) (r : Fed) : Type 0 where
   pub part : r .used ≤ length input
   pub some : 0 < length input → 0 < r .used
   pub taken : Takes s line₀ held (take (r .used) input) before at after line r

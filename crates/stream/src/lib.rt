@@ -48,11 +48,11 @@ fn keep(line: &mut [u8], held: usize, b: u8) -> usize
     requires { ⌜ held ≤ length (now line) ⌝ }
     ensures { λ r. ⌜ (take r (now (line .exit)) ≡ kept (length (now (line .entry))) (take held (now (line .entry))) b) × (r ≤ length (now (line .entry))) ⌝ }
 {
-    if held < line.len() {
-        line[held] = b;
-        return held + 1;
+    if held >= line.len() {
+        return held;
     }
-    held
+    line[held] = b;
+    held + 1
 }
 
 // Holds the characters of a piece up to the first line feed, or to its end.

@@ -2,16 +2,11 @@ use Rattle.focusdesk.proofs.Laws as laws
 use Rattle.focusdesk.proofs.Laws.{Serving}
 use Rattle.text.proofs.Laws as text
 use native.Mathlib.Omega.{arith}
-use borrow.Author.Needs.{needs}
-use mathlib.Core.Path.{_≡_, refl, sym, ap, _∙_}
-use Prim.Native.Nat.{_≤_, _-_}
+use mathlib.Core.Path.{_≡_, refl, _∙_}
+use Prim.Native.Nat.{_-_}
 use lib.ListN.{length}
 use Rattle.focusdesk.proofs.serve.Statement.{statement}
 use Rattle.focusdesk.proofs.serve.Tie as tie
-use Rattle.focusdesk.proofs.serve.Reads as reads
-use Rattle.focusdesk.proofs.serve.Lts as lts
-use Rattle.focusdesk.proofs.flush.Reads as flush-reads
-use Rattle.stream.proofs.feed.Reads as feed-reads
 
 abbrev Inv-loop : tie.InvT-loop
 Inv-loop line₀ held input out₀ fed₀ i₀ line out fed i = Serving (fed₀ .sheet) line₀ held input line out fed i × (length out ≡ length out₀)
@@ -19,63 +14,48 @@ Inv-loop line₀ held input out₀ fed₀ i₀ line out fed i = Serving (fed₀ 
 abbrev μ-loop : tie.MeasureT-loop
 μ-loop line₀ held input out₀ fed₀ i₀ line out fed i = length input - i
 
--- src/main.rt:47:5
 loop-holds : tie.Need-loop-holds Inv-loop μ-loop
 loop-holds c = (laws.serving-none _ _ _ _ _ (omega arith) (c .before .before .before .pre), refl)
 
--- src/main.rt:49:52
 sub-feed : tie.Need-sub-feed Inv-loop μ-loop
 sub-feed c = omega arith
 
--- src/main.rt:49:52
 part-feed-start : tie.Need-part-feed-start Inv-loop μ-loop
 part-feed-start c = omega arith
 
--- src/main.rt:49:52
 part-feed-end : tie.Need-part-feed-end Inv-loop μ-loop
 part-feed-end c = omega arith
 
--- src/main.rt:49:9
 feed-requires : tie.Need-feed-requires Inv-loop μ-loop
 feed-requires c κs = tt
 
--- src/main.rt:50:13
 flush-requires : tie.Need-flush-requires Inv-loop μ-loop
 flush-requires c κs = laws.feed-place (c .before .before .before .before .before .feed .ensures)
 
--- src/main.rt:52:13
 same-length : tie.Need-same-length Inv-loop μ-loop
 same-length c = (c .before .before .before .before .before .before .before .before .feed .ensures .taken .long) ∙ (c .before .before .before .before .before .before .before .before .before .before .before .before .before .before .loop .inv .0 .long)
 
--- src/main.rt:52:13
 same-length-2 : tie.Need-same-length-2 Inv-loop μ-loop
 same-length-2 c = text.put-same ((c .before .before .before .before .before .before .before .before .feed .ensures .taken .put)) ∙ (c .before .before .before .before .before .before .before .before .before .before .before .before .before .before .loop .inv .1)
 
--- src/main.rt:52:13
 returns : tie.Need-returns Inv-loop μ-loop
 returns c = laws.serves-not _ ((c .before .before .before .before .before .before .before .before .feed .ensures .taken .long) ∙ (c .before .before .before .before .before .before .before .before .before .before .before .before .before .before .loop .inv .0 .long))
 
--- src/main.rt:58:9
 add-i : tie.Need-add-i Inv-loop μ-loop
 add-i c = omega (arith, (c .before .before .before .before .before .before .before .before .before .before .before .before .before .before .loop .inv .0 .counted), laws.serving-far _ _ ((c .before .before .before .before .before .before .before .before .before .before .before .before .before .before .loop .inv .0)) (c .before .before .before .before .before .before .before .before .before .before .before .before .before .loop-test .taken) (c .before .before .before .before .before .before .before .before .feed .ensures) .1)
 
--- src/main.rt:47:5
 loop-less : tie.Need-loop-less Inv-loop μ-loop
 loop-less c = omega (arith, laws.serving-far _ _ ((c .before .before .before .before .before .before .before .before .before .before .before .before .before .before .loop .inv .0)) (c .before .before .before .before .before .before .before .before .before .before .before .before .before .loop-test .taken) (c .before .before .before .before .before .before .before .before .feed .ensures) .0, laws.serving-far _ _ ((c .before .before .before .before .before .before .before .before .before .before .before .before .before .before .loop .inv .0)) (c .before .before .before .before .before .before .before .before .before .before .before .before .before .loop-test .taken) (c .before .before .before .before .before .before .before .before .feed .ensures) .1)
 
--- src/main.rt:47:5
 loop-again : tie.Need-loop-again Inv-loop μ-loop
 loop-again c = (laws.serving-more _ _ ((c .before .before .before .before .before .before .before .before .before .before .before .before .before .before .loop .inv .0)) (c .before .before .before .before .before .before .before .before .feed .ensures), text.put-same ((c .before .before .before .before .before .before .before .before .feed .ensures .taken .put)) ∙ (c .before .before .before .before .before .before .before .before .before .before .before .before .before .before .loop .inv .1))
 
--- src/main.rt:36:1
 same-length-3 : tie.Need-same-length-3 Inv-loop μ-loop
 same-length-3 c = (c .before .before .loop .inv .0 .long)
 
--- src/main.rt:36:1
 same-length-4 : tie.Need-same-length-4 Inv-loop μ-loop
 same-length-4 c = (c .before .before .loop .inv .1)
 
--- src/main.rt:36:1
 returns-2 : tie.Need-returns-2 Inv-loop μ-loop
 returns-2 c = laws.serves-all _ _ ((c .before .before .loop .inv .0)) (c .before .loop-test .left)
 

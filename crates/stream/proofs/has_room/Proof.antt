@@ -1,15 +1,10 @@
 use Rattle.stream.proofs.Laws as laws
-use native.Mathlib.Omega.{arith}
 use Rattle.stream.proofs.has_room.Statement.{statement}
 use Rattle.stream.proofs.has_room.Tie as tie
-use Rattle.stream.proofs.has_room.Reads as reads
-use Rattle.stream.proofs.has_room.Lts as lts
 
--- src/lib.rt:41:9
 returns : tie.Need-returns
 returns c = laws.no-room _ _ (c .if1 .taken)
 
--- src/lib.rt:37:1
 returns-2 : tie.Need-returns-2
 returns-2 c = laws.room-left _ _ (c .if1 .left)
 

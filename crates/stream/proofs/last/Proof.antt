@@ -1,37 +1,26 @@
 use Rattle.stream.proofs.Laws as laws
-use Rattle.text.proofs.Laws as text
 use native.Mathlib.Omega.{arith}
-use mathlib.Core.Path.{_≡_, refl, sym, ap, _∙_}
+use mathlib.Core.Path.{sym}
 use lib.Seq.{length-take-le}
 use borrow.Author.Needs.{needs}
 use Rattle.stream.proofs.last.Statement.{statement}
 use Rattle.stream.proofs.last.Tie as tie
-use Rattle.stream.proofs.last.Reads as reads
-use Rattle.stream.proofs.last.Lts as lts
-use Rattle.session.proofs.step.Reads as step-reads
-use Rattle.stream.proofs.least.Reads as least-reads
 
--- src/lib.rt:161:9
 least-requires : tie.Need-least-requires
 least-requires c κs = search needs
 
--- src/lib.rt:163:9
 returns : tie.Need-returns
 returns c = laws.last-none _ _ _ _ _ _ (c .before .least .ensures) (c .if1 .taken) (omega arith) (omega arith)
 
--- src/lib.rt:165:34
 slice-aggregate-step : tie.Need-slice-aggregate-step
 slice-aggregate-step c = sym (length-take-le _ _ (omega (arith, (c .before .before .least .ensures))))
 
--- src/lib.rt:165:9
 step-requires : tie.Need-step-requires
 step-requires c κs = search needs
 
--- src/lib.rt:157:1
 same-length : tie.Need-same-length
 same-length c = search needs
 
--- src/lib.rt:157:1
 returns-2 : tie.Need-returns-2
 returns-2 c = laws.last-some _ _ _ (c .before .before .before .before .before .before .least .ensures) (c .before .before .before .before .before .if1 .left) (c .before .before .step .ensures)
 

@@ -1,16 +1,10 @@
 use Rattle.stream.proofs.Laws as laws
-use Rattle.text.proofs.Laws as text
 use native.Mathlib.Omega.{arith}
-use borrow.Author.Needs.{needs}
-use mathlib.Core.Path.{_≡_, refl, sym, ap, _∙_}
 use Prim.Native.Nat.{_≤_, _-_}
 use lib.ListN.{length, take}
 use Rattle.stream.specs.Stream.{Quiet}
 use Rattle.stream.proofs.take_run.Statement.{statement}
 use Rattle.stream.proofs.take_run.Tie as tie
-use Rattle.stream.proofs.take_run.Reads as reads
-use Rattle.stream.proofs.take_run.Lts as lts
-use Rattle.stream.proofs.keep.Reads as keep-reads
 
 abbrev Inv-loop : tie.InvT-loop
 Inv-loop line₀ held input n₀ i₀ line n i = (i ≤ length input) × Quiet line₀ held (take i input) line n
@@ -18,43 +12,33 @@ Inv-loop line₀ held input n₀ i₀ line n i = (i ≤ length input) × Quiet l
 abbrev μ-loop : tie.MeasureT-loop
 μ-loop line₀ held input n₀ i₀ line n i = length input - i
 
--- src/lib.rt:65:5
 loop-holds : tie.Need-loop-holds Inv-loop μ-loop
 loop-holds c = (omega arith, laws.quiet-none _ _ (c .before .before .pre))
 
--- src/lib.rt:66:17
 shared-slice-read-b : tie.Need-shared-slice-read-b Inv-loop μ-loop
 shared-slice-read-b c = omega arith
 
--- src/lib.rt:68:13
 same-length : tie.Need-same-length Inv-loop μ-loop
 same-length c = (c .before .before .before .loop .inv .1 .long)
 
--- src/lib.rt:68:13
 returns : tie.Need-returns Inv-loop μ-loop
 returns c = laws.run-ends _ _ _ ((c .before .before .before .loop .inv .0)) ((c .before .before .before .loop .inv .1)) (λ z. (c .if1 .taken))
 
--- src/lib.rt:70:9
 keep-requires : tie.Need-keep-requires Inv-loop μ-loop
 keep-requires c κs = (c .before .before .before .before .loop .inv .1 .few)
 
--- src/lib.rt:71:9
 add-i : tie.Need-add-i Inv-loop μ-loop
 add-i c = omega arith
 
--- src/lib.rt:65:5
 loop-less : tie.Need-loop-less Inv-loop μ-loop
 loop-less c = omega arith
 
--- src/lib.rt:65:5
 loop-again : tie.Need-loop-again Inv-loop μ-loop
 loop-again c = (omega arith, laws.quiet-more _ _ (c .before .before .before .before .before .before .loop-test .taken) (c .before .before .before .before .if1 .left) ((c .before .before .before .before .before .before .before .loop .inv .1)) ((c .before .before .keep .ensures .0)) ((c .before .before .keep .ensures .1)) ((c .before .before .keep .kept .0)))
 
--- src/lib.rt:59:1
 same-length-2 : tie.Need-same-length-2 Inv-loop μ-loop
 same-length-2 c = (c .before .loop .inv .1 .long)
 
--- src/lib.rt:59:1
 returns-2 : tie.Need-returns-2 Inv-loop μ-loop
 returns-2 c = laws.run-ends _ _ _ ((c .before .loop .inv .0)) ((c .before .loop .inv .1)) (λ z. absurd (omega arith))
 
