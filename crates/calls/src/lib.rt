@@ -2,11 +2,11 @@
 use hex::is_checked;
 use reading::geometry::OptionalSize;
 use reading::geometry::Size;
-use reading::io::ByteOrder;
-use reading::io::head;
-use reading::io::tail;
-use reading::io::u8_at;
-use reading::io::u32_of;
+use tiff::io::ByteOrder;
+use tiff::io::head;
+use tiff::io::tail;
+use tiff::io::u8_at;
+use tiff::io::u32_of;
 ghost use mathlib.Core.Path.{_≡_};
 ghost use Prim.Native.Nat.{_-_, _<_};
 ghost use Rattle.calls.specs.Format.{numberAt, sizeAt, sidesAgree, optional, modelLength, isLoad, loadOf};

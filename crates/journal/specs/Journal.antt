@@ -8,7 +8,7 @@ use mathlib.Core.Option.{Option, none, some}
 use lib.Dec.{leb, ltb, eqb}
 use lib.ListN.{getD, length, take, drop}
 use Rattle.reading.specs.Focus.{inFocusNumber, modeNumber}
-use Rattle.reading.specs.Outcome.{Outcome, refused, accepted}
+use Rattle.tiff.specs.Outcome.{Outcome, refused, accepted}
 use Rattle.reading.specs.declared.geometry.Size.{Size}
 use Rattle.fitting.specs.declared.focus.FocusPoint.{FocusPoint}
 use Rattle.fitting.specs.Fit.{hasZeroSide, pointFits}

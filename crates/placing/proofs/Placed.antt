@@ -8,8 +8,8 @@ use native.Mathlib.Omega.{arith}
 use lib.Dec.{eqb}
 use lib.ListN.{length, getD}
 use borrow.Author.Tests.{eq-eqb, ne-eqb}
-use Rattle.reading.specs.Outcome.{Outcome, refused, accepted, numberOf}
-use Rattle.reading.specs.Bytes.{same}
+use Rattle.tiff.specs.Outcome.{Outcome, refused, accepted, numberOf}
+use Rattle.tiff.specs.Bytes.{same}
 use Rattle.reading.specs.declared.geometry.OptionalSize.{OptionalSize}
 use Rattle.reading.specs.declared.focus.FocusAreaMode.{FocusAreaMode}
 use Rattle.reading.specs.declared.nikon.Crop.{Crop}

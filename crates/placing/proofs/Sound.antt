@@ -7,7 +7,7 @@ use mathlib.Core.List.{List}
 use native.Mathlib.Omega.{arith}
 use lib.Dec.{eqb}
 use lib.ListN.{length}
-use Rattle.reading.specs.Outcome.{Outcome, refused, accepted}
+use Rattle.tiff.specs.Outcome.{Outcome, refused, accepted}
 use Rattle.reading.specs.declared.geometry.OptionalSize.{OptionalSize}
 use Rattle.reading.specs.declared.focus.FocusAreaMode.{FocusAreaMode}
 use Rattle.reading.specs.declared.nikon.Crop.{Crop}
@@ -18,7 +18,7 @@ use Rattle.placing.specs.Load.{Focus}
 use Rattle.placing.specs.Points.{hasTable, points}
 use Rattle.placing.specs.Named.{placedFrame, listed, hasNumber, windowFocus, placedIn, namedOutcome, NamedSound}
 use Rattle.placing.specs.Sound.{Sound, SoundFocus}
-use Rattle.reading.specs.Block.{blockOf}
+use Rattle.tiff.specs.Block.{blockOf}
 use Rattle.reading.specs.Values.{manualFocusOf, cropHiSpeedOf, cropAreaOf}
 use Rattle.reading.specs.Record.{afInfo2Of}
 use Rattle.reading.specs.declared.nikon.CropArea.{CropArea}

@@ -5,10 +5,10 @@ use mathlib.Core.List.{List, [], _∷_, _++_}
 use mathlib.Core.Path.{_≡_}
 use lib.ListN.{replicate}
 use lib.Dec.{eqb}
-use Rattle.reading.specs.Outcome.{Outcome, refused, accepted, numberOf}
+use Rattle.tiff.specs.Outcome.{Outcome, refused, accepted, numberOf}
 use Rattle.reading.specs.Focus.{inFocusNumber}
 use Rattle.reading.specs.Record.{recordOf}
-use Rattle.reading.specs.declared.io.ByteOrder.the-variants.{Big}
+use Rattle.tiff.specs.declared.io.ByteOrder.the-variants.{Big}
 use Rattle.reading.specs.declared.geometry.Size.{Size}
 use Rattle.reading.specs.declared.geometry.OptionalSize.{OptionalSize}
 use Rattle.reading.specs.declared.geometry.OptionalSize.the-variants.{Missing, Given}

@@ -4,7 +4,7 @@ use mathlib.Core.Bool.{Bool, true, false, cond, _&&_, _||_}
 use mathlib.Core.List.{List, [], _∷_}
 use lib.ListN.{length}
 use lib.Dec.{leb, eqb}
-use Rattle.reading.specs.Outcome.{Outcome, refused, accepted}
+use Rattle.tiff.specs.Outcome.{Outcome, refused, accepted}
 use Rattle.reading.specs.declared.geometry.Size.{Size}
 use Rattle.reading.specs.declared.geometry.Point.{Point}
 use Rattle.reading.specs.declared.geometry.OptionalSize.{OptionalSize}

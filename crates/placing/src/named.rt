@@ -18,7 +18,7 @@ ghost use Prim.Native.Nat.{_≤_, _<_};
 ghost use lib.ListN.{take};
 ghost use Rattle.placing.specs.Load.{laidOut};
 ghost use Rattle.placing.specs.Named.{samePlace, pictureIs, onCrop, uncropped, frameMeans, placedFrame, marked, isNamed, fitsWindow, lessOrigin, isListed, ifListed, listed, listingOf, indexOf, placedIn, namedOutcome};
-ghost use Rattle.reading.specs.Outcome.{accepted};
+ghost use Rattle.tiff.specs.Outcome.{accepted};
 
 // A part of the table's frame: the frame that points are placed in, and where it starts.
 pub struct Window {

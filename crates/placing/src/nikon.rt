@@ -8,12 +8,12 @@ use fitting::focus::FocusPoint;
 use reading::focus::FocusAreaMode;
 use reading::geometry::OptionalSize;
 use reading::geometry::Size;
-use reading::ifd::Block;
-use reading::io::ByteOrder;
 use reading::nikon::AfInfo2;
 use reading::nikon::Crop;
 use reading::nikon::CropArea;
 use reading::nikon::FocusRecord;
+use tiff::ifd::Block;
+use tiff::io::ByteOrder;
 ghost use mathlib.Core.Path.{_≡_};
 ghost use Rattle.placing.specs.Load.{laidOut};
 ghost use Rattle.placing.specs.Focus.{pointOf, recordsPosition, alone, placedOf, focusIn, focusOf};
@@ -120,7 +120,7 @@ fn focus_in(
 pub fn focus(block: &[u8], raw: OptionalSize, picture: OptionalSize, model: &[u8]) -> FocusPoints
     ensures { λ r. ⌜ r ≡ laidOut (focusOf (now (block .entry)) raw picture (now (model .entry))) ⌝ }
 {
-    match reading::ifd::parse_block(block) {
+    match tiff::ifd::parse_block(block) {
         Block::Readable(order) => focus_in(block, order, raw, picture, model),
         Block::Unreadable => crate::focus::no_points(Refusal::Unreadable),
     }

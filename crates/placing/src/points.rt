@@ -260,7 +260,7 @@ const POINTS: [TablePoint; 39] = [
 pub fn has_table(model: &[u8]) -> bool
     ensures { λ r. ⌜ r ≡ hasTable (now (model .entry)) ⌝ }
 {
-    reading::io::equals(model, b"NIKON D600")
+    tiff::io::equals(model, b"NIKON D600")
 }
 
 // The point at place `i` of the table, from 0; past the end everything is zero.

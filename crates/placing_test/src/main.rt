@@ -8,7 +8,7 @@ use placing::focus::FocusAnswer;
 use placing::focus::FocusPoints;
 use reading::geometry::OptionalSize;
 use reading::geometry::Size;
-use reading::io::ByteOrder;
+use tiff::io::ByteOrder;
 ghost use mathlib.Core.Path.{_≡_};
 ghost use lib.ListN.{length};
 
@@ -61,7 +61,7 @@ fn print_placed(f: FocusPoints) {
 
 // The 32-bit number at a place.
 fn number_at(s: &[u8], at: usize) -> u32 {
-    reading::io::u32_of(reading::io::tail(s, at), ByteOrder::Big)
+    tiff::io::u32_of(tiff::io::tail(s, at), ByteOrder::Big)
 }
 
 fn size_at(s: &[u8], at: usize, given: bool) -> OptionalSize {
@@ -69,20 +69,20 @@ fn size_at(s: &[u8], at: usize, given: bool) -> OptionalSize {
         return OptionalSize::Missing;
     }
     let width = number_at(s, at);
-    let height = number_at(reading::io::tail(s, at), 4);
+    let height = number_at(tiff::io::tail(s, at), 4);
     OptionalSize::Given(Size { width, height })
 }
 
 // Answers one load.
 fn answer(load: &[u8]) {
-    let flags = reading::io::u8_at(load, 0);
+    let flags = tiff::io::u8_at(load, 0);
     let raw = size_at(load, 1, flags % 2 == 1);
     let picture = size_at(load, 9, flags / 2 % 2 == 1);
-    let model_len = reading::io::u8_at(load, 17) as usize;
-    let block_len = reading::io::u16_of(reading::io::tail(load, 18), ByteOrder::Big) as usize;
-    let rest = reading::io::tail(load, 20);
-    let model = reading::io::head(rest, model_len);
-    let block = reading::io::head(reading::io::tail(rest, model_len), block_len);
+    let model_len = tiff::io::u8_at(load, 17) as usize;
+    let block_len = tiff::io::u16_of(tiff::io::tail(load, 18), ByteOrder::Big) as usize;
+    let rest = tiff::io::tail(load, 20);
+    let model = tiff::io::head(rest, model_len);
+    let block = tiff::io::head(tiff::io::tail(rest, model_len), block_len);
     let f = placing::nikon::focus(block, raw, picture, model);
     let how = f.answer;
     match how {

@@ -1,4 +1,1 @@
-pub mod Same
-pub mod Entries
 pub mod Text
-pub mod Collect

@@ -5,9 +5,9 @@ use mathlib.Core.Bool.{Bool, true, false, cond}
 use mathlib.Core.List.{List, [], _∷_, _++_}
 use lib.ListN.{length, take, drop, replicate}
 use lib.Dec.{eqb}
-use Rattle.reading.specs.Outcome.{Outcome, refused, accepted}
-use Rattle.reading.specs.Block.{blockOf, findOf, isKept}
-use Rattle.reading.specs.declared.io.ByteOrder.{ByteOrder}
+use Rattle.tiff.specs.Outcome.{Outcome, refused, accepted}
+use Rattle.tiff.specs.Block.{blockOf, findOf, isKept}
+use Rattle.tiff.specs.declared.io.ByteOrder.{ByteOrder}
 use Rattle.reading.specs.declared.nikon.ContentsAnswer.{ContentsAnswer}
 use Rattle.reading.specs.declared.nikon.ContentsAnswer.the-variants.{Unreadable, Listed}
 use Rattle.reading.specs.declared.nikon.TagList.{TagList}

@@ -4,11 +4,11 @@ use mathlib.Core.Bool.{Bool, true, false, cond, _&&_, _||_}
 use mathlib.Core.List.{List, [], _∷_}
 use lib.ListN.{length, getD, drop, take}
 use lib.Dec.{leb, eqb}
-use Rattle.reading.specs.Outcome.{Outcome, refused, accepted}
-use Rattle.reading.specs.Numbers.{shortsOf}
-use Rattle.reading.specs.Bytes.{same}
-use Rattle.reading.specs.Block.{findOf, typeOf, valueOf}
-use Rattle.reading.specs.declared.io.ByteOrder.{ByteOrder}
+use Rattle.tiff.specs.Outcome.{Outcome, refused, accepted}
+use Rattle.tiff.specs.Numbers.{shortsOf}
+use Rattle.tiff.specs.Bytes.{same}
+use Rattle.tiff.specs.Block.{findOf, typeOf, valueOf}
+use Rattle.tiff.specs.declared.io.ByteOrder.{ByteOrder}
 use Rattle.reading.specs.declared.geometry.Size.{Size}
 use Rattle.reading.specs.declared.focus.InFocus.{InFocus}
 use Rattle.reading.specs.declared.focus.InFocus.the-variants.{Unrecorded, No, Yes}

@@ -4,15 +4,15 @@ use mathlib.Core.Bool.{Bool, true, false, cond, _&&_, _||_}
 use mathlib.Core.List.{List, [], _∷_, reverse}
 use lib.ListN.{length, drop}
 use lib.Dec.{leb, ltb, eqb}
-use Rattle.reading.specs.Numbers.{u16Of, u32Of}
-use Rattle.reading.specs.Bytes.{same}
-use Rattle.reading.specs.Block.{findOf, isKept, typeOf, countOf, valueOf}
-use Rattle.reading.specs.declared.io.ByteOrder.{ByteOrder}
+use Rattle.tiff.specs.Numbers.{u16Of, u32Of}
+use Rattle.tiff.specs.Bytes.{same}
+use Rattle.tiff.specs.Block.{findOf, isKept, typeOf, countOf, valueOf}
+use Rattle.tiff.specs.declared.io.ByteOrder.{ByteOrder}
 use Rattle.reading.specs.declared.geometry.Size.{Size}
 use Rattle.reading.specs.declared.geometry.Point.{Point}
 use Rattle.reading.specs.declared.geometry.OptionalSize.{OptionalSize}
 use Rattle.reading.specs.declared.geometry.OptionalSize.the-variants.{Missing, Given}
-use Rattle.reading.specs.declared.ifd.Found.{Found}
+use Rattle.tiff.specs.declared.ifd.Found.{Found}
 use Rattle.reading.specs.declared.nikon.CropHiSpeed.{CropHiSpeed}
 use Rattle.reading.specs.declared.nikon.Crop.{Crop}
 use Rattle.reading.specs.declared.nikon.Crop.the-variants.{Unrecorded, Recorded}

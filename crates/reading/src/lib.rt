@@ -3,7 +3,4 @@
 // The modules carry the names of the source files that they port.
 pub mod focus; // focus.rs: how an area was chosen, and whether focus was confirmed
 pub mod geometry; // geometry.rs: sizes and positions in pixels
-pub mod ifd; // ifd.rs: the block, its directory, an entry and its value
-pub mod io; // io.rs: numbers in a byte order, and parts of a slice
 pub mod nikon; // nikon.rs: the four values, the record, the contents
-pub mod types; // types.rs: the field types and their sizes

@@ -4,15 +4,15 @@ use crate::focus::InFocus;
 use crate::geometry::OptionalSize;
 use crate::geometry::Point;
 use crate::geometry::Size;
-use crate::ifd::Block;
-use crate::io::ByteOrder;
-use crate::io::Pair;
+use tiff::ifd::Block;
+use tiff::io::ByteOrder;
+use tiff::io::Pair;
 ghost use mathlib.Core.Path.{_≡_};
 ghost use Prim.Native.Nat.{_<_};
 ghost use lib.ListN.{getD, drop};
-ghost use Rattle.reading.specs.Outcome.{numberOf};
-ghost use Rattle.reading.specs.Numbers.{shortsOf};
-ghost use Rattle.reading.specs.Block.{blockOf};
+ghost use Rattle.tiff.specs.Outcome.{numberOf};
+ghost use Rattle.tiff.specs.Numbers.{shortsOf};
+ghost use Rattle.tiff.specs.Block.{blockOf};
 ghost use Rattle.reading.specs.Values.{upToZero, trimStart, trimEnd, isManual, manualFocusOf, numberAt, cropHiSpeedOf, isRectangle, insideRaw, cropAreaOf};
 ghost use Rattle.reading.specs.Record.{versions, noVersion, layouts, noLayout, layoutOf, areaModeOf, inFocusOf, maskOf, namedOf, sizeAt, recordIn, recordMeans, recordOf, afInfo2Of};
 ghost use Rattle.reading.specs.Contents.{contentsNumber, keptTags, listed, contentsOf, ContentsOf};
@@ -33,7 +33,7 @@ fn up_to_zero(s: &[u8]) -> &[u8]
     let mut i: usize = 0;
     while i < s.len() {
         if s[i] == 0 {
-            return crate::io::head(s, i);
+            return tiff::io::head(s, i);
         }
         i += 1;
     }
@@ -47,11 +47,11 @@ fn trim_start(s: &[u8]) -> &[u8]
     let mut i: usize = 0;
     while i < s.len() {
         if s[i] != b' ' {
-            return crate::io::tail(s, i);
+            return tiff::io::tail(s, i);
         }
         i += 1;
     }
-    crate::io::tail(s, i)
+    tiff::io::tail(s, i)
 }
 
 // A text without the spaces at its end.
@@ -62,11 +62,11 @@ fn trim_end(s: &[u8]) -> &[u8]
     while 0 < n {
         let last = n - 1;
         if s[last] != b' ' {
-            return crate::io::head(s, n);
+            return tiff::io::head(s, n);
         }
         n -= 1;
     }
-    crate::io::head(s, n)
+    tiff::io::head(s, n)
 }
 
 // Whether a FocusMode text reads MANUAL.
@@ -77,18 +77,18 @@ fn is_manual(value: &[u8]) -> bool
     if 255 < text.len() {
         return false;
     }
-    crate::io::equals(trim_end(trim_start(text)), b"MANUAL")
+    tiff::io::equals(trim_end(trim_start(text)), b"MANUAL")
 }
 
 // Whether FocusMode records manual focus.
 pub fn manual_focus(block: &[u8], order: ByteOrder) -> bool
     ensures { λ r. ⌜ r ≡ manualFocusOf order (now (block .entry)) ⌝ }
 {
-    let found = crate::ifd::find_entry(block, order, FOCUS_MODE);
-    if crate::ifd::type_of(found) != crate::types::ASCII {
+    let found = tiff::ifd::find_entry(block, order, FOCUS_MODE);
+    if tiff::ifd::type_of(found) != tiff::types::ASCII {
         return false;
     }
-    is_manual(crate::ifd::value_of(block, found))
+    is_manual(tiff::ifd::value_of(block, found))
 }
 
 // Number `i` of a value whose numbers are 16 bits wide if `typ` is SHORT, else 32.
@@ -96,10 +96,10 @@ fn number_at(value: &[u8], order: ByteOrder, typ: u16, i: usize) -> u32
     requires { ⌜ i < 8 ⌝ }
     ensures { λ r. ⌜ r ≡ numberAt order typ (now (value .entry)) i ⌝ }
 {
-    if typ == crate::types::SHORT {
-        return crate::io::u16_of(crate::io::tail(value, 2 * i), order) as u32;
+    if typ == tiff::types::SHORT {
+        return tiff::io::u16_of(tiff::io::tail(value, 2 * i), order) as u32;
     }
-    crate::io::u32_of(crate::io::tail(value, 4 * i), order)
+    tiff::io::u32_of(tiff::io::tail(value, 4 * i), order)
 }
 
 // What CropHiSpeed records: the crop's mode, the picture's size before and after it, and where it starts.
@@ -120,26 +120,26 @@ pub enum Crop {
 pub fn crop_hi_speed(block: &[u8], order: ByteOrder) -> Crop
     ensures { λ r. ⌜ r ≡ cropHiSpeedOf order (now (block .entry)) ⌝ }
 {
-    let found = crate::ifd::find_entry(block, order, CROP_HI_SPEED);
-    if crate::ifd::type_of(found) != crate::types::SHORT {
+    let found = tiff::ifd::find_entry(block, order, CROP_HI_SPEED);
+    if tiff::ifd::type_of(found) != tiff::types::SHORT {
         return Crop::Unrecorded;
     }
-    if crate::ifd::count_of(found) != 7 {
+    if tiff::ifd::count_of(found) != 7 {
         return Crop::Unrecorded;
     }
-    let value = crate::ifd::value_of(block, found);
-    let mode = number_at(value, order, crate::types::SHORT, 0);
+    let value = tiff::ifd::value_of(block, found);
+    let mode = number_at(value, order, tiff::types::SHORT, 0);
     let original = Size {
-        width: number_at(value, order, crate::types::SHORT, 1),
-        height: number_at(value, order, crate::types::SHORT, 2),
+        width: number_at(value, order, tiff::types::SHORT, 1),
+        height: number_at(value, order, tiff::types::SHORT, 2),
     };
     let cropped = Size {
-        width: number_at(value, order, crate::types::SHORT, 3),
-        height: number_at(value, order, crate::types::SHORT, 4),
+        width: number_at(value, order, tiff::types::SHORT, 3),
+        height: number_at(value, order, tiff::types::SHORT, 4),
     };
     let origin = Point {
-        x: number_at(value, order, crate::types::SHORT, 5),
-        y: number_at(value, order, crate::types::SHORT, 6),
+        x: number_at(value, order, tiff::types::SHORT, 5),
+        y: number_at(value, order, tiff::types::SHORT, 6),
     };
     Crop::Recorded(CropHiSpeed {
         mode,
@@ -182,25 +182,25 @@ fn is_rectangle(typ: u16, count: u32) -> bool
     if count != 4 {
         return false;
     }
-    if typ == crate::types::SHORT {
+    if typ == tiff::types::SHORT {
         return true;
     }
-    typ == crate::types::LONG
+    typ == tiff::types::LONG
 }
 
 // What CropArea gives in raw data of the size `raw`.
 pub fn crop_area(block: &[u8], order: ByteOrder, raw: OptionalSize) -> CropArea
     ensures { λ r. ⌜ r ≡ cropAreaOf order (now (block .entry)) raw ⌝ }
 {
-    let found = crate::ifd::find_entry(block, order, CROP_AREA);
-    if !crate::ifd::is_kept(found) {
+    let found = tiff::ifd::find_entry(block, order, CROP_AREA);
+    if !tiff::ifd::is_kept(found) {
         return CropArea::Absent;
     }
-    let typ = crate::ifd::type_of(found);
-    if !is_rectangle(typ, crate::ifd::count_of(found)) {
+    let typ = tiff::ifd::type_of(found);
+    if !is_rectangle(typ, tiff::ifd::count_of(found)) {
         return CropArea::Unusable;
     }
-    let value = crate::ifd::value_of(block, found);
+    let value = tiff::ifd::value_of(block, found);
     let at = Point {
         x: number_at(value, order, typ, 0),
         y: number_at(value, order, typ, 1),
@@ -340,12 +340,12 @@ fn version_at(i: usize) -> Version
 fn layout_of(value: &[u8]) -> KnownLayout
     ensures { λ r. ⌜ r ≡ layoutOf (now (value .entry)) ⌝ }
 {
-    let start = crate::io::head(value, 4);
+    let start = tiff::io::head(value, 4);
     let mut i: usize = 0;
     while i < 7 {
         let v = version_at(i);
         let text = v.text;
-        if crate::io::equals(start, &text) {
+        if tiff::io::equals(start, &text) {
             return KnownLayout::Known(layout_at(v.layout));
         }
         i += 1;
@@ -403,7 +403,7 @@ fn in_focus_at(value: &[u8], place: Place) -> InFocus
 {
     match place {
         Place::At(at) => {
-            let byte = crate::io::u8_at(value, at);
+            let byte = tiff::io::u8_at(value, at);
             if byte == 0 {
                 return InFocus::No;
             }
@@ -431,9 +431,9 @@ pub enum NamedPoints {
 fn mask_of(s: &[u8]) -> u64
     ensures { λ r. ⌜ r ≡ maskOf (now (s .entry)) ⌝ }
 {
-    let low = crate::io::u32_of(s, ByteOrder::Little) as u64;
-    let middle = crate::io::u16_of(crate::io::tail(s, 4), ByteOrder::Little) as u64;
-    let high = crate::io::u8_at(s, 6) as u64;
+    let low = tiff::io::u32_of(s, ByteOrder::Little) as u64;
+    let middle = tiff::io::u16_of(tiff::io::tail(s, 4), ByteOrder::Little) as u64;
+    let high = tiff::io::u8_at(s, 6) as u64;
     low + 4294967296 * middle + 281474976710656 * high
 }
 
@@ -442,11 +442,11 @@ fn named_points(value: &[u8], place: Place) -> NamedPoints
 {
     match place {
         Place::At(at) => {
-            let names = crate::io::tail(value, at);
+            let names = tiff::io::tail(value, at);
             NamedPoints::Named {
-                layout_code: crate::io::u8_at(names, 0),
-                primary: crate::io::u8_at(names, 1),
-                mask: mask_of(crate::io::tail(names, 2)),
+                layout_code: tiff::io::u8_at(names, 0),
+                primary: tiff::io::u8_at(names, 1),
+                mask: mask_of(tiff::io::tail(names, 2)),
             }
         }
         Place::Nowhere => NamedPoints::Unnamed,
@@ -475,9 +475,9 @@ fn shorts_at(value: &[u8], at: usize, order: ByteOrder) -> Pair
     ensures { λ r. ⌜ r ≡ shortsOf order (drop at (now (value .entry))) ⌝ }
 {
     if value.len() < at {
-        return crate::io::shorts(&value[..0], order);
+        return tiff::io::shorts(&value[..0], order);
     }
-    crate::io::shorts(&value[at..], order)
+    tiff::io::shorts(&value[at..], order)
 }
 
 fn size_at(value: &[u8], at: usize, order: ByteOrder) -> Size
@@ -502,7 +502,7 @@ fn record_in(value: &[u8], order: ByteOrder, layout: Layout) -> FocusRecord
     let center = size_at(value, center_place, order);
     let area = size_at(value, area_place, order);
     let in_focus = in_focus_at(value, in_focus_place);
-    let area_mode = area_mode(crate::io::u8_at(value, 4), crate::io::u8_at(value, 5));
+    let area_mode = area_mode(tiff::io::u8_at(value, 4), tiff::io::u8_at(value, 5));
     let named = named_points(value, named_place);
     FocusRecord {
         frame,
@@ -536,11 +536,11 @@ pub fn af_info2_record(value: &[u8], order: ByteOrder) -> AfInfo2
 pub fn af_info2(block: &[u8], order: ByteOrder) -> AfInfo2
     ensures { λ r. ⌜ recordMeans r ≡ afInfo2Of order (now (block .entry)) ⌝ }
 {
-    let found = crate::ifd::find_entry(block, order, AF_INFO2);
-    if crate::ifd::type_of(found) != crate::types::UNDEFINED {
+    let found = tiff::ifd::find_entry(block, order, AF_INFO2);
+    if tiff::ifd::type_of(found) != tiff::types::UNDEFINED {
         return AfInfo2::Missing;
     }
-    af_info2_record(crate::ifd::value_of(block, found), order)
+    af_info2_record(tiff::ifd::value_of(block, found), order)
 }
 
 // Whether contents could be read.
@@ -568,7 +568,7 @@ fn kept_tags(block: &[u8], order: ByteOrder) -> TagList
     let mut i: usize = 0;
     while i < 4 {
         let tag = TAGS[i];
-        if crate::ifd::is_kept(crate::ifd::find_entry(block, order, tag)) {
+        if tiff::ifd::is_kept(tiff::ifd::find_entry(block, order, tag)) {
             tags[count] = tag;
             count += 1;
         }
@@ -585,7 +585,7 @@ fn kept_tags(block: &[u8], order: ByteOrder) -> TagList
 pub fn contents(block: &[u8]) -> TagList
     ensures { λ r. ⌜ (contentsNumber (r .answer) ≡ numberOf (blockOf (now (block .entry)))) × ContentsOf (blockOf (now (block .entry))) (now (block .entry)) r × (r ≡ contentsOf (now (block .entry))) ⌝ }
 {
-    match crate::ifd::parse_block(block) {
+    match tiff::ifd::parse_block(block) {
         Block::Readable(order) => kept_tags(block, order),
         Block::Unreadable => TagList {
             answer: ContentsAnswer::Unreadable,

@@ -4,15 +4,15 @@ use libc::STDIN_FILENO;
 use libc::STDOUT_FILENO;
 use reading::geometry::OptionalSize;
 use reading::geometry::Size;
-use reading::ifd::Block;
-use reading::ifd::Found;
-use reading::io::ByteOrder;
 use reading::nikon::AfInfo2;
 use reading::nikon::ContentsAnswer;
 use reading::nikon::Crop;
 use reading::nikon::CropArea;
 use reading::nikon::FocusRecord;
 use reading::nikon::NamedPoints;
+use tiff::ifd::Block;
+use tiff::ifd::Found;
+use tiff::io::ByteOrder;
 ghost use Prim.Native.Nat.{_<_, _≤_, min};
 ghost use mathlib.Core.Path.{_≡_};
 ghost use lib.ListN.{length};
@@ -87,18 +87,18 @@ fn order_name(order: ByteOrder) {
 // The first kept entry of a tag: its type, its count and its value.
 fn entry(block: &[u8], order: ByteOrder, tag: u16) {
     number(b" | ", tag as u64);
-    let found = reading::ifd::find_entry(block, order, tag);
-    if !reading::ifd::is_kept(found) {
+    let found = tiff::ifd::find_entry(block, order, tag);
+    if !tiff::ifd::is_kept(found) {
         text(b" absent");
         return;
     }
-    number(b" type ", reading::ifd::type_of(found) as u64);
+    number(b" type ", tiff::ifd::type_of(found) as u64);
     if let Found::Damaged { typ: _ } = found {
         text(b" damaged");
         return;
     }
-    number(b" count ", reading::ifd::count_of(found) as u64);
-    let value = reading::ifd::value_of(block, found);
+    number(b" count ", tiff::ifd::count_of(found) as u64);
+    let value = tiff::ifd::value_of(block, found);
     number(b" bytes ", value.len() as u64);
     bytes(value);
 }
@@ -216,7 +216,7 @@ fn values(block: &[u8], order: ByteOrder) {
 }
 
 fn report(s: &[u8]) {
-    match reading::ifd::parse_block(s) {
+    match tiff::ifd::parse_block(s) {
         Block::Readable(order) => values(s, order),
         Block::Unreadable => text(b"no 1"),
     }
@@ -225,7 +225,7 @@ fn report(s: &[u8]) {
 
 // Answers one line.
 fn answer(line: &[u8]) {
-    if reading::io::u8_at(line, 0) == b'#' {
+    if tiff::io::u8_at(line, 0) == b'#' {
         text(line);
     } else {
         let mut space = io::buffer();

@@ -14,11 +14,11 @@ use Rattle.text.specs.Answers.{okText, noText, tagsText, headText, pointsText}
 use Rattle.text.specs.Put.{Put}
 use Rattle.text.proofs.Laws.{Puts, joins, at-most}
 use Rattle.text.proofs.Lists.{by-bool}
-use Rattle.reading.specs.Outcome.{Outcome, refused, accepted}
-use Rattle.reading.specs.Block.{blockOf, findOf, isKept}
+use Rattle.tiff.specs.Outcome.{Outcome, refused, accepted}
+use Rattle.tiff.specs.Block.{blockOf, findOf, isKept}
 use Rattle.reading.specs.Focus.{modeNumber}
 use Rattle.reading.specs.Contents.{contentsNumber, contentsOf, contentsIn, fourTags, keptAmong, keptTags}
-use Rattle.reading.specs.declared.io.ByteOrder.{ByteOrder}
+use Rattle.tiff.specs.declared.io.ByteOrder.{ByteOrder}
 use Rattle.reading.specs.declared.geometry.Size.{Size}
 use Rattle.reading.specs.declared.geometry.OptionalSize.{OptionalSize}
 use Rattle.reading.specs.declared.nikon.TagList.{TagList}

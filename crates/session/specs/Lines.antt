@@ -7,7 +7,7 @@ use lib.Dec.{eqb}
 use lib.ListN.{getD, length, replicate}
 use Rattle.text.specs.Answers.{okText, noText, tagsText, headText, pointsText}
 use Rattle.text.specs.Put.{Put}
-use Rattle.reading.specs.Outcome.{Outcome, refused, accepted}
+use Rattle.tiff.specs.Outcome.{Outcome, refused, accepted}
 use Rattle.reading.specs.Contents.{contentsNumber, contentsOf}
 use Rattle.reading.specs.declared.nikon.TagList.{TagList}
 use Rattle.hex.specs.Hex.{wellFormed, bytesOf}

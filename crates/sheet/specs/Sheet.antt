@@ -5,7 +5,7 @@ use mathlib.Core.List.{List}
 use lib.Dec.{leb, ltb, eqb}
 use lib.ListN.{getD, length, replicate}
 use lib.Seq.{sets}
-use Rattle.reading.specs.Outcome.{Outcome, refused, accepted}
+use Rattle.tiff.specs.Outcome.{Outcome, refused, accepted}
 use Rattle.reading.specs.declared.geometry.Size.{Size}
 use Rattle.reading.specs.declared.focus.FocusAreaMode.the-variants.{Unnamed}
 use Rattle.placing.specs.declared.focus.FocusOrigin.the-variants.{Recorded}

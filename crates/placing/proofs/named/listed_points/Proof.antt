@@ -9,7 +9,7 @@ use native.Mathlib.Numerals.{add-one}
 use native.Mathlib.Omega.{arith}
 use lib.ListN.{getD, drop, set, replicate}
 use lib.Seq.{drop-cons}
-use Rattle.reading.proofs.Collect.{Held, stored, finished}
+use Rattle.tiff.proofs.Collect.{Held, stored, finished}
 use Rattle.fitting.specs.declared.focus.FocusPoint.{FocusPoint}
 use Rattle.placing.specs.declared.points.TablePoint.{TablePoint}
 use Rattle.placing.specs.declared.named.Window.{Window}

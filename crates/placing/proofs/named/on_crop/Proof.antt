@@ -2,7 +2,7 @@
 use mathlib.Core.Path.{_≡_}
 use mathlib.Core.Bool.{Bool, true, false, not}
 use borrow.Author.Tests.{eq-eqb, ne-eqb, not-true, not-false}
-use Rattle.reading.specs.Outcome.{refused, accepted}
+use Rattle.tiff.specs.Outcome.{refused, accepted}
 use Rattle.reading.specs.declared.geometry.OptionalSize.{OptionalSize}
 use Rattle.reading.specs.declared.nikon.CropHiSpeed.{CropHiSpeed}
 use Rattle.placing.specs.Named.{dx, samePlace, noneOr, onCrop}

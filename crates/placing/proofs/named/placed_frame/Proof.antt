@@ -1,7 +1,7 @@
 -- `named::placed_frame`: by cases on the crop, then whether it cuts anything. Assumes nothing.
 use mathlib.Core.Path.{_≡_}
 use mathlib.Core.Bool.{Bool, true, false}
-use Rattle.reading.specs.Outcome.{accepted}
+use Rattle.tiff.specs.Outcome.{accepted}
 use Rattle.reading.specs.declared.geometry.OptionalSize.{OptionalSize}
 use Rattle.reading.specs.declared.nikon.CropHiSpeed.{CropHiSpeed}
 use Rattle.reading.specs.declared.nikon.Crop.{Crop}

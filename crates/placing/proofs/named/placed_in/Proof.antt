@@ -5,7 +5,7 @@ use mathlib.Core.Bool.{Bool, true, false, cond}
 use native.Mathlib.Omega.{arith}
 use lib.ListN.{length, take, replicate}
 use lib.Seq.{take-at}
-use Rattle.reading.specs.Outcome.{refused, accepted}
+use Rattle.tiff.specs.Outcome.{refused, accepted}
 use Rattle.reading.specs.declared.focus.FocusAreaMode.{FocusAreaMode}
 use Rattle.placing.specs.declared.focus.FocusOrigin.the-variants.{Table}
 use Rattle.placing.specs.declared.focus.Refusal.the-variants.{Unnamed}

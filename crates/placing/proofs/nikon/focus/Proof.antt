@@ -3,12 +3,12 @@ use mathlib.Core.Path.{_≡_, _∙_, ap}
 use mathlib.Core.List.{List}
 use Prim.Native.Nat.{ℕ}
 use denote.Ref.{now}
-use Rattle.reading.specs.Outcome.{refused}
-use Rattle.reading.specs.Block.{blockOf, blockMeans}
-use Rattle.reading.specs.declared.io.ByteOrder.{ByteOrder}
+use Rattle.tiff.specs.Outcome.{refused}
+use Rattle.tiff.specs.Block.{blockOf, blockMeans}
+use Rattle.tiff.specs.declared.io.ByteOrder.{ByteOrder}
 use Rattle.reading.specs.declared.geometry.OptionalSize.{OptionalSize}
-use Rattle.reading.specs.declared.ifd.Block.{Block}
-use Rattle.reading.specs.declared.ifd.Block.the-variants.{Unreadable, Readable}
+use Rattle.tiff.specs.declared.ifd.Block.{Block}
+use Rattle.tiff.specs.declared.ifd.Block.the-variants.{Unreadable, Readable}
 use Rattle.placing.specs.Load.{laidOut, refusedBy, refusalOf}
 use Rattle.placing.specs.Focus.{focusOf, focusIn}
 use Rattle.placing.specs.declared.focus.FocusPoints.{FocusPoints}

@@ -1,7 +1,7 @@
 -- `recorded::onto_picture`: by whether the picture has a zero side. Assumes nothing.
 use mathlib.Core.Path.{_≡_}
 use mathlib.Core.Bool.{Bool, true, false}
-use Rattle.reading.specs.Outcome.{Outcome, refused}
+use Rattle.tiff.specs.Outcome.{Outcome, refused}
 use Rattle.reading.specs.declared.geometry.Size.{Size}
 use Rattle.fitting.specs.Fit.{hasZeroSide}
 use Rattle.fitting.specs.declared.focus.FocusPoint.{FocusPoint}

@@ -1,7 +1,7 @@
 -- `recorded::onto_window`: by what the crop cut, then by the uncut side. Assumes nothing.
 use mathlib.Core.Path.{_≡_, _∙_}
 use borrow.Author.Tests.{eq-eqb, ne-eqb}
-use Rattle.reading.specs.Outcome.{refused}
+use Rattle.tiff.specs.Outcome.{refused}
 use Rattle.reading.specs.declared.geometry.Size.{Size}
 use Rattle.fitting.specs.declared.focus.FocusPoint.{FocusPoint}
 use Rattle.placing.specs.Recorded.{ontoWindow, scaledTo, inWindow}

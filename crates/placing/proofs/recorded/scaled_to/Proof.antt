@@ -1,7 +1,7 @@
 -- `recorded::scaled_to`: by whether the target has a zero side. Assumes nothing.
 use mathlib.Core.Path.{_≡_, _∙_, sym}
 use mathlib.Core.Bool.{Bool, true, false}
-use Rattle.reading.specs.Outcome.{refused}
+use Rattle.tiff.specs.Outcome.{refused}
 use Rattle.reading.specs.declared.geometry.Size.{Size}
 use Rattle.fitting.specs.Fit.{hasZeroSide}
 use Rattle.fitting.specs.Scale.{scaledPoint}

@@ -4,11 +4,11 @@ use mathlib.Core.List.{List}
 use Prim.Native.Nat.{ℕ}
 use borrow.Author.Tests.{eq-eqb, ne-eqb}
 use denote.Ref.{now}
-use Rattle.reading.specs.Outcome.{Outcome, refused}
-use Rattle.reading.specs.Block.{findOf, typeOf, valueOf}
+use Rattle.tiff.specs.Outcome.{Outcome, refused}
+use Rattle.tiff.specs.Block.{findOf, typeOf, valueOf}
 use Rattle.reading.specs.Record.{recordOf, afInfo2Of}
-use Rattle.reading.specs.declared.io.ByteOrder.{ByteOrder}
-use Rattle.reading.specs.declared.ifd.Found.{Found}
+use Rattle.tiff.specs.declared.io.ByteOrder.{ByteOrder}
+use Rattle.tiff.specs.declared.ifd.Found.{Found}
 use Rattle.reading.specs.declared.nikon.FocusRecord.{FocusRecord}
 use borrow.Author.Needs.{needs}
 use Rattle.reading.proofs.nikon.af_info2.Statement.{statement}

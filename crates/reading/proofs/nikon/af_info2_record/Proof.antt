@@ -5,9 +5,9 @@ use Prim.Native.Nat.{ℕ, _≤_, _<_}
 use borrow.Author.Tests.{le-leb, lt-leb}
 use lib.ListN.{length}
 use denote.Ref.{now}
-use Rattle.reading.specs.Outcome.{refused, accepted}
+use Rattle.tiff.specs.Outcome.{refused, accepted}
 use Rattle.reading.specs.Record.{recordOf, recordIn, layoutOf}
-use Rattle.reading.specs.declared.io.ByteOrder.{ByteOrder}
+use Rattle.tiff.specs.declared.io.ByteOrder.{ByteOrder}
 use Rattle.reading.specs.declared.nikon.Layout.{Layout}
 use Rattle.reading.specs.declared.nikon.FocusRecord.{FocusRecord}
 use Rattle.reading.specs.declared.nikon.KnownLayout.{KnownLayout}

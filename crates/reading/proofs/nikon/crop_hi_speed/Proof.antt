@@ -4,10 +4,10 @@ use mathlib.Core.List.{List}
 use Prim.Native.Nat.{ℕ}
 use borrow.Author.Tests.{eq-eqb, ne-eqb}
 use denote.Ref.{now}
-use Rattle.reading.specs.Block.{findOf, typeOf, countOf, valueOf}
+use Rattle.tiff.specs.Block.{findOf, typeOf, countOf, valueOf}
 use Rattle.reading.specs.Values.{cropHiSpeedOf, cropOf, numberAt}
-use Rattle.reading.specs.declared.io.ByteOrder.{ByteOrder}
-use Rattle.reading.specs.declared.ifd.Found.{Found}
+use Rattle.tiff.specs.declared.io.ByteOrder.{ByteOrder}
+use Rattle.tiff.specs.declared.ifd.Found.{Found}
 use Rattle.reading.specs.declared.nikon.Crop.the-variants.{Unrecorded, Recorded}
 use borrow.Author.Needs.{needs}
 use Rattle.reading.proofs.nikon.crop_hi_speed.Statement.{statement}

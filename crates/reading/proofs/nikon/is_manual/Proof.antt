@@ -6,7 +6,7 @@ use Prim.Native.Nat.{ℕ, _≤_, _<_}
 use borrow.Author.Tests.{le-leb, lt-leb}
 use lib.ListN.{length}
 use denote.Ref.{now}
-use Rattle.reading.specs.Bytes.{same}
+use Rattle.tiff.specs.Bytes.{same}
 use Rattle.reading.specs.Values.{isManual, upToZero, trimStart, trimEnd, manual}
 use borrow.Author.Needs.{needs}
 use Rattle.reading.proofs.nikon.is_manual.Statement.{statement}

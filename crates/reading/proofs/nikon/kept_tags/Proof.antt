@@ -9,10 +9,10 @@ use native.Mathlib.Omega.{arith}
 use lib.ListN.{getD, drop, set}
 use lib.Seq.{drop-cons}
 use denote.Ref.{now}
-use Rattle.reading.specs.Block.{findOf, isKept}
+use Rattle.tiff.specs.Block.{findOf, isKept}
 use Rattle.reading.specs.Contents.{fourTags, keptAmong, keptTags, listed}
-use Rattle.reading.proofs.Collect.{Held, stored, finished}
-use Rattle.reading.specs.declared.io.ByteOrder.{ByteOrder}
+use Rattle.tiff.proofs.Collect.{Held, stored, finished}
+use Rattle.tiff.specs.declared.io.ByteOrder.{ByteOrder}
 use Rattle.reading.specs.declared.nikon.TagList.{TagList}
 use Rattle.reading.specs.declared.nikon.ContentsAnswer.the-variants.{Listed}
 use borrow.Author.Needs.{needs}

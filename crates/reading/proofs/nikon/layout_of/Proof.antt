@@ -8,7 +8,7 @@ use native.Mathlib.Omega.{arith}
 use lib.ListN.{getD, drop, take}
 use lib.Seq.{drop-cons}
 use denote.Ref.{now}
-use Rattle.reading.specs.Bytes.{same}
+use Rattle.tiff.specs.Bytes.{same}
 use Rattle.reading.specs.Record.{layouts, noLayout, versions, noVersion, layoutAmong, layoutOf}
 use Rattle.reading.specs.declared.nikon.Version.{Version}
 use Rattle.reading.specs.declared.nikon.Layout.{Layout}

@@ -4,7 +4,7 @@ use mathlib.Core.Bool.{true}
 use Prim.Native.Nat.{ℕ}
 use native.Mathlib.Omega.{arith}
 use lib.ListN.{replicate}
-use Rattle.reading.specs.Outcome.{Outcome, refused, accepted}
+use Rattle.tiff.specs.Outcome.{Outcome, refused, accepted}
 use Rattle.placing.specs.declared.focus.Refusal.{Refusal}
 use Rattle.placing.specs.declared.focus.FocusAnswer.{FocusAnswer}
 use Rattle.placing.specs.declared.focus.FocusAnswer.the-variants.{Placed, Refused}

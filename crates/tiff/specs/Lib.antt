@@ -1,0 +1,4 @@
+pub mod Outcome
+pub mod Numbers
+pub mod Bytes
+pub mod Block
