@@ -25,98 +25,9 @@ abbrev put-number-below : ℕ → In 1 put-number-kinds.ps
 put-number-below t =
     and 1 put-number-kinds.ps (falls 1 put-number-kinds.ps _<_ μ-put-number t) put-number.Pre
 
-put-number-last-digit-requires : (t : ℕ) → put-number-lts.Need-last-digit-requires (
-  last-digit-reads.Asked,
-  last-digit-reads.Learnt,
-  put-byte-reads.Asked,
-  put-byte-reads.Learnt,
-  put-number-below t,
-  put-number.Post,
-) (put-number-at t) put-number.Post
-put-number-last-digit-requires t c κs = tt
-
-put-number-put-byte-requires : (t : ℕ) → put-number-lts.Need-put-byte-requires (
-  last-digit-reads.Asked,
-  last-digit-reads.Learnt,
-  put-byte-reads.Asked,
-  put-byte-reads.Learnt,
-  put-number-below t,
-  put-number.Post,
-) (put-number-at t) put-number.Post
-put-number-put-byte-requires t c κs = tt
-
-put-number-same-length : (t : ℕ) → put-number-lts.Need-same-length (
-  last-digit-reads.Asked,
-  last-digit-reads.Learnt,
-  put-byte-reads.Asked,
-  put-byte-reads.Learnt,
-  put-number-below t,
-  put-number.Post,
-) (put-number-at t) put-number.Post
-put-number-same-length t c = laws.put-same (c .before .before .put-byte .ensures)
-
-put-number-returns : (t : ℕ) → put-number-lts.Need-returns (
-  last-digit-reads.Asked,
-  last-digit-reads.Learnt,
-  put-byte-reads.Asked,
-  put-byte-reads.Learnt,
-  put-number-below t,
-  put-number.Post,
-) (put-number-at t) put-number.Post
-put-number-returns t c = lines.number-few _ (omega (arith, (c .before .before .before .before .before .if1 .taken))) (c .before .before .before .last-digit .ensures) (c .before .before .put-byte .ensures)
-
-put-number-put-number-requires : (t : ℕ) → put-number-lts.Need-put-number-requires (
-  last-digit-reads.Asked,
-  last-digit-reads.Learnt,
-  put-byte-reads.Asked,
-  put-byte-reads.Learnt,
-  put-number-below t,
-  put-number.Post,
-) (put-number-at t) put-number.Post
-put-number-put-number-requires t c κs = (omega arith, tt)
-
-put-number-last-digit-requires-2 : (t : ℕ) → put-number-lts.Need-last-digit-requires-2 (
-  last-digit-reads.Asked,
-  last-digit-reads.Learnt,
-  put-byte-reads.Asked,
-  put-byte-reads.Learnt,
-  put-number-below t,
-  put-number.Post,
-) (put-number-at t) put-number.Post
-put-number-last-digit-requires-2 t c κs = tt
-
-put-number-put-byte-requires-2 : (t : ℕ) → put-number-lts.Need-put-byte-requires-2 (
-  last-digit-reads.Asked,
-  last-digit-reads.Learnt,
-  put-byte-reads.Asked,
-  put-byte-reads.Learnt,
-  put-number-below t,
-  put-number.Post,
-) (put-number-at t) put-number.Post
-put-number-put-byte-requires-2 t c κs = tt
-
-put-number-same-length-2 : (t : ℕ) → put-number-lts.Need-same-length-2 (
-  last-digit-reads.Asked,
-  last-digit-reads.Learnt,
-  put-byte-reads.Asked,
-  put-byte-reads.Learnt,
-  put-number-below t,
-  put-number.Post,
-) (put-number-at t) put-number.Post
-put-number-same-length-2 t c = laws.put-same (c .before .before .put-byte2 .ensures) ∙ laws.put-same (c .before .before .before .before .before .before .before .put-number .ensures .0)
-
-put-number-returns-2 : (t : ℕ) → put-number-lts.Need-returns-2 (
-  last-digit-reads.Asked,
-  last-digit-reads.Learnt,
-  put-byte-reads.Asked,
-  put-byte-reads.Learnt,
-  put-number-below t,
-  put-number.Post,
-) (put-number-at t) put-number.Post
-put-number-returns-2 t c = lines.number-more _ (omega arith) (omega (arith, (c .before .before .before .before .before .before .before .before .before .if1 .left))) (c .before .before .before .last-digit2 .ensures) (c .before .before .before .before .before .before .before .put-number .ensures .0) (c .before .before .put-byte2 .ensures)
-
-pub +put-number-spec : {M : Type 1} → statement M
-+put-number-spec = close μ-put-number λ t. put-number-lts.spec (
+-- what is known of the calls
+abbrev claims : ℕ → put-number-lts.Claims
+claims t = (
   last-digit-reads.Asked,
   last-digit-reads.Learnt,
   put-byte-reads.Asked,
@@ -124,6 +35,36 @@ pub +put-number-spec : {M : Type 1} → statement M
   put-number-below t,
   put-number.Post,
 )
+
+put-number-last-digit-requires : (t : ℕ) → put-number-lts.Need-last-digit-requires (claims t) (put-number-at t) put-number.Post
+put-number-last-digit-requires t c κs = tt
+
+put-number-put-byte-requires : (t : ℕ) → put-number-lts.Need-put-byte-requires (claims t) (put-number-at t) put-number.Post
+put-number-put-byte-requires t c κs = tt
+
+put-number-same-length : (t : ℕ) → put-number-lts.Need-same-length (claims t) (put-number-at t) put-number.Post
+put-number-same-length t c = laws.put-same (c .before .before .put-byte .ensures)
+
+put-number-returns : (t : ℕ) → put-number-lts.Need-returns (claims t) (put-number-at t) put-number.Post
+put-number-returns t c = lines.number-few _ (omega (arith, (c .before .before .before .before .before .if1 .taken))) (c .before .before .before .last-digit .ensures) (c .before .before .put-byte .ensures)
+
+put-number-put-number-requires : (t : ℕ) → put-number-lts.Need-put-number-requires (claims t) (put-number-at t) put-number.Post
+put-number-put-number-requires t c κs = (omega arith, tt)
+
+put-number-last-digit-requires-2 : (t : ℕ) → put-number-lts.Need-last-digit-requires-2 (claims t) (put-number-at t) put-number.Post
+put-number-last-digit-requires-2 t c κs = tt
+
+put-number-put-byte-requires-2 : (t : ℕ) → put-number-lts.Need-put-byte-requires-2 (claims t) (put-number-at t) put-number.Post
+put-number-put-byte-requires-2 t c κs = tt
+
+put-number-same-length-2 : (t : ℕ) → put-number-lts.Need-same-length-2 (claims t) (put-number-at t) put-number.Post
+put-number-same-length-2 t c = laws.put-same (c .before .before .put-byte2 .ensures) ∙ laws.put-same (c .before .before .before .before .before .before .before .put-number .ensures .0)
+
+put-number-returns-2 : (t : ℕ) → put-number-lts.Need-returns-2 (claims t) (put-number-at t) put-number.Post
+put-number-returns-2 t c = lines.number-more _ (omega arith) (omega (arith, (c .before .before .before .before .before .before .before .before .before .if1 .left))) (c .before .before .before .last-digit2 .ensures) (c .before .before .before .before .before .before .before .put-number .ensures .0) (c .before .before .put-byte2 .ensures)
+
+pub +put-number-spec : {M : Type 1} → statement M
++put-number-spec = close μ-put-number λ t. put-number-lts.spec (claims t)
     (put-number-at t)
     put-number.Post
     (put-number-last-digit-requires t)

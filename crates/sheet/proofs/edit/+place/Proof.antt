@@ -43,68 +43,9 @@ place-at t = and 1 place-kinds.ps (is 1 place-kinds.ps μ-place t) place.Pre
 abbrev place-below : ℕ → In 1 place-kinds.ps
 place-below t = and 1 place-kinds.ps (falls 1 place-kinds.ps _<_ μ-place t) place.Pre
 
-place-returns : (t : ℕ) → place-lts.Need-returns (
-  place-below t,
-  place.Post,
-  edit-at-reads.Asked,
-  edit-at-reads.Learnt,
-  move-by-reads.Asked,
-  move-by-reads.Learnt,
-) (place-at t) place.Post
-place-returns t c = no-edits _ _ _ _ (c .if1 .taken)
-
-place-sub-m : (t : ℕ) → place-lts.Need-sub-m (
-  place-below t,
-  place.Post,
-  edit-at-reads.Asked,
-  edit-at-reads.Learnt,
-  move-by-reads.Asked,
-  move-by-reads.Learnt,
-) (place-at t) place.Post
-place-sub-m t c = omega arith
-
-place-place-requires : (t : ℕ) → place-lts.Need-place-requires (
-  place-below t,
-  place.Post,
-  edit-at-reads.Asked,
-  edit-at-reads.Learnt,
-  move-by-reads.Asked,
-  move-by-reads.Learnt,
-) (place-at t) place.Post
-place-place-requires t c κs = omega arith
-
-place-edit-at-requires : (t : ℕ) → place-lts.Need-edit-at-requires (
-  place-below t,
-  place.Post,
-  edit-at-reads.Asked,
-  edit-at-reads.Learnt,
-  move-by-reads.Asked,
-  move-by-reads.Learnt,
-) (place-at t) place.Post
-place-edit-at-requires t c κs = omega arith
-
-place-move-by-requires : (t : ℕ) → place-lts.Need-move-by-requires (
-  place-below t,
-  place.Post,
-  edit-at-reads.Asked,
-  edit-at-reads.Learnt,
-  move-by-reads.Asked,
-  move-by-reads.Learnt,
-) (place-at t) place.Post
-place-move-by-requires t c κs = search needs
-
-place-returns-2 : (t : ℕ) → place-lts.Need-returns-2 (
-  place-below t,
-  place.Post,
-  edit-at-reads.Asked,
-  edit-at-reads.Learnt,
-  move-by-reads.Asked,
-  move-by-reads.Learnt,
-) (place-at t) place.Post
-place-returns-2 t c = one-more _ _ _ _ _ _ (c .before .before .before .if1 .left) (c .before .before .place .ensures) _ (c .before .edit-at .ensures) (c .move-by .ensures)
-
-pub +place-spec : {M : Type 1} → statement M
-+place-spec = close μ-place λ t. place-lts.spec (
+-- what is known of the calls
+abbrev claims : ℕ → place-lts.Claims
+claims t = (
   place-below t,
   place.Post,
   edit-at-reads.Asked,
@@ -112,6 +53,27 @@ pub +place-spec : {M : Type 1} → statement M
   move-by-reads.Asked,
   move-by-reads.Learnt,
 )
+
+place-returns : (t : ℕ) → place-lts.Need-returns (claims t) (place-at t) place.Post
+place-returns t c = no-edits _ _ _ _ (c .if1 .taken)
+
+place-sub-m : (t : ℕ) → place-lts.Need-sub-m (claims t) (place-at t) place.Post
+place-sub-m t c = omega arith
+
+place-place-requires : (t : ℕ) → place-lts.Need-place-requires (claims t) (place-at t) place.Post
+place-place-requires t c κs = omega arith
+
+place-edit-at-requires : (t : ℕ) → place-lts.Need-edit-at-requires (claims t) (place-at t) place.Post
+place-edit-at-requires t c κs = omega arith
+
+place-move-by-requires : (t : ℕ) → place-lts.Need-move-by-requires (claims t) (place-at t) place.Post
+place-move-by-requires t c κs = search needs
+
+place-returns-2 : (t : ℕ) → place-lts.Need-returns-2 (claims t) (place-at t) place.Post
+place-returns-2 t c = one-more _ _ _ _ _ _ (c .before .before .before .if1 .left) (c .before .before .place .ensures) _ (c .before .edit-at .ensures) (c .move-by .ensures)
+
+pub +place-spec : {M : Type 1} → statement M
++place-spec = close μ-place λ t. place-lts.spec (claims t)
     (place-at t)
     place.Post
     (place-returns t)
