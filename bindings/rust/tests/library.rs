@@ -1,0 +1,308 @@
+//! The wrapper against the specification's cases and the stored answers of the repository: the loads of `placing_test`, whose answers are
+//! the Rust original's, and the scripts of `focusdesk` and of demo/.
+
+use focuspoints::*;
+use std::fmt::Write;
+use std::fs;
+use std::path::PathBuf;
+
+const MODEL: &[u8] = b"NIKON D600";
+const MARK: u32 = 0xABCD_1234;
+
+fn stored(path: &str) -> Vec<u8> {
+    fs::read(PathBuf::from(env!("CARGO_MANIFEST_DIR")).join("../..").join(path)).unwrap()
+}
+
+/// A big-endian block: its entries (tag, type, count, value), the values behind the directory.
+fn block_of(entries: &[(u16, u16, u32, &[u8])]) -> Vec<u8> {
+    let mut block = b"MM\0*\0\0\0\x08".to_vec();
+    block.extend((entries.len() as u16).to_be_bytes());
+    let mut at = 10 + 12 * entries.len();
+    let mut values: Vec<u8> = Vec::new();
+    for &(tag, kind, count, value) in entries {
+        block.extend(tag.to_be_bytes());
+        block.extend(kind.to_be_bytes());
+        block.extend(count.to_be_bytes());
+        if value.len() <= 4 {
+            block.extend(value);
+            block.extend(vec![0; 4 - value.len()]);
+        } else {
+            block.extend((at as u32).to_be_bytes());
+            values.extend(value);
+            at += value.len();
+        }
+    }
+    block.extend(values);
+    block
+}
+
+/// A record of version 0100: layout 3, a primary, and the mask's first two bytes.
+fn record(primary: u8, mask: [u8; 2], len: usize) -> Vec<u8> {
+    let mut r = vec![0; len];
+    r[..4].copy_from_slice(b"0100");
+    r[6] = 3;
+    r[7] = primary;
+    r[8..10].copy_from_slice(&mask);
+    r
+}
+
+fn named(primary: u8, mask: [u8; 2]) -> Vec<u8> {
+    let r = record(primary, mask, 30);
+    block_of(&[(0xB7, 7, 30, &r)])
+}
+
+/// Points 1 and 16, as in the specification's whole case.
+fn whole_case() -> Vec<u8> {
+    named(1, [0x01, 0x80])
+}
+
+/// A block that is refused, with the number.
+fn refused() -> Vec<(Vec<u8>, Refusal)> {
+    let r = record(1, [1, 0], 30);
+    let short = record(1, [1, 0], 29);
+    let mut outside = vec![0; 84];
+    outside[..4].copy_from_slice(b"0101");
+    for (i, n) in [6016u16, 4016, 100, 2000, 201, 200].iter().enumerate() {
+        outside[70 + 2 * i..72 + 2 * i].copy_from_slice(&n.to_be_bytes());
+    }
+    vec![
+        (whole_case()[..7].to_vec(), Refusal::Unreadable),
+        (Vec::new(), Refusal::Unreadable),
+        (block_of(&[(7, 2, 5, b"AF-S\0")]), Refusal::Missing),
+        (block_of(&[(7, 2, 9, b" MANUAL \0"), (0xB7, 7, 30, &r)]), Refusal::Manual),
+        (block_of(&[(0xB7, 7, 29, &short)]), Refusal::Unusable),
+        (block_of(&[(0xB7, 7, 84, &outside)]), Refusal::Unplaced),
+        (named(0, [1, 0]), Refusal::Unnamed),
+    ]
+}
+
+#[test]
+fn the_whole_cases_photograph() {
+    let listing = photograph(&whole_case(), None, None, MODEL).unwrap();
+    let point = |number, x, y| FocusPoint {
+        number: Some(number),
+        center: Point { x, y },
+        area: Some(Size { width: 164, height: 164 }),
+        in_focus: None,
+    };
+    assert_eq!(
+        listing,
+        Listing {
+            frame: Size { width: 6016, height: 4016 },
+            primary: 0,
+            mode: Some(AreaMode::Single),
+            origin: Origin::Table,
+            points: vec![point(1, 3008, 2007), point(16, 3486, 2007)],
+        }
+    );
+}
+
+#[test]
+fn refusals_keep_the_buffer() {
+    for (block, why) in refused() {
+        // The refusal comes before the buffer's length.
+        for places in [0, 1, 240] {
+            let mut out = vec![MARK; places];
+            assert_eq!(photograph_into(&block, None, None, MODEL, &mut out), Err(why));
+            assert!(out.iter().all(|&n| n == MARK), "{why}");
+        }
+        assert_eq!(photograph(&block, None, None, MODEL), Err(why));
+    }
+    let numbers: Vec<u32> = refused().iter().map(|(_, why)| why.number()).collect();
+    assert_eq!(numbers, [1, 1, 2, 3, 4, 5, 6]);
+    assert_eq!(Refusal::Short.number(), 13);
+}
+
+#[test]
+fn a_short_buffer_is_kept_and_a_long_one_behind_the_listing() {
+    let block = whole_case();
+    for places in 0..18 {
+        let mut out = vec![MARK; places];
+        assert_eq!(photograph_into(&block, None, None, MODEL, &mut out), Err(Refusal::Short));
+        assert!(out.iter().all(|&n| n == MARK), "{places} places");
+    }
+    let numbers = [6016, 4016, 2, 0, 1, 2, 1, 3008, 2007, 164, 164, 0, 16, 3486, 2007, 164, 164, 0];
+    for places in [18, 19, 240, 1000] {
+        let mut out = vec![MARK; places];
+        assert_eq!(photograph_into(&block, None, None, MODEL, &mut out), Ok(18));
+        assert_eq!(out[..18], numbers);
+        assert!(out[18..].iter().all(|&n| n == MARK), "{places} places");
+    }
+}
+
+#[test]
+fn all_39_points_need_240_places() {
+    let mut r = record(1, [0xFF, 0xFF], 30);
+    r[10..13].copy_from_slice(&[0xFF, 0xFF, 0x7F]);
+    let block = block_of(&[(0xB7, 7, 30, &r)]);
+    assert_eq!(photograph(&block, None, None, MODEL).unwrap().points.len(), 39);
+    let mut out = [MARK; LISTING];
+    assert_eq!(photograph_into(&block, None, None, MODEL, &mut out[..239]), Err(Refusal::Short));
+    assert_eq!(out, [MARK; LISTING]);
+    assert_eq!(photograph_into(&block, None, None, MODEL, &mut out), Ok(240));
+}
+
+#[test]
+fn sizes_are_missing_or_given() {
+    // Point 1 in a picture of 4512 by 3008 (the specification's example), and in the whole frame.
+    let block = named(1, [1, 0]);
+    let picture = Size { width: 4512, height: 3008 };
+    let center = |raw, picture| photograph(&block, raw, picture, MODEL).unwrap().points[0].center;
+    assert_eq!(center(None, Some(picture)), Point { x: 3005, y: 2002 });
+    assert_eq!(center(None, None), Point { x: 3008, y: 2007 });
+    // The same size as that of the raw data says nothing of the picture.
+    assert_eq!(center(Some(picture), None), Point { x: 3008, y: 2007 });
+    // A size of no pixels is not a missing one: a recorded position scaled to a picture of width 0.
+    let mut r = vec![0; 84];
+    r[..4].copy_from_slice(b"0101");
+    for (i, n) in [6016u16, 4016, 3000, 2000, 200, 200].iter().enumerate() {
+        r[70 + 2 * i..72 + 2 * i].copy_from_slice(&n.to_be_bytes());
+    }
+    let crop: Vec<u8> =
+        [2u16, 6016, 4016, 3008, 2008, 0, 0].iter().flat_map(|n| n.to_be_bytes()).collect();
+    let block = block_of(&[(0x1B, 3, 7, &crop), (0xB7, 7, 84, &r)]);
+    assert_eq!(
+        photograph(&block, None, Some(Size { width: 0, height: 2008 }), MODEL),
+        Err(Refusal::Unplaced)
+    );
+    assert_eq!(
+        photograph(&block, None, None, MODEL).unwrap().frame,
+        Size { width: 6016, height: 4016 }
+    );
+    let half = photograph(&block, None, Some(Size { width: 3008, height: 2008 }), MODEL).unwrap();
+    assert_eq!(half.points[0].center, Point { x: 1500, y: 1000 });
+    assert_eq!((half.points[0].number, half.origin), (None, Origin::Recorded));
+}
+
+#[test]
+fn slices_of_length_0() {
+    assert_eq!(photograph_into(&[], None, None, &[], &mut []), Err(Refusal::Unreadable));
+    assert_eq!(photograph_into(&whole_case(), None, None, &[], &mut []), Err(Refusal::Unnamed));
+    assert_eq!(photograph_into(&whole_case(), None, None, MODEL, &mut []), Err(Refusal::Short));
+    assert_eq!(contents_into(&[], &mut []), Err(Refusal::Unreadable));
+    assert_eq!(contents_into(&whole_case(), &mut []), Err(Refusal::Short));
+    assert_eq!(script_into(&[], &mut []), Ok(0));
+    assert_eq!(script_into(b"03FD\n", &mut []), Err(Refusal::Short));
+    assert_eq!(script(&[]), []);
+}
+
+#[test]
+fn scripts_are_answered_byte_for_byte() {
+    for (given, wanted) in [
+        ("crates/focusdesk/stdin", "crates/focusdesk/stdout"),
+        ("crates/script_test/stdin", "crates/script_test/stdout"),
+        ("tools/oracle/stored/lines.txt", "tools/oracle/stored/lines.out"),
+        ("demo/whole-case.txt", "demo/whole-case.out"),
+        ("demo/dx-crop.txt", "demo/dx-crop.out"),
+        ("demo/recorded.txt", "demo/recorded.out"),
+        ("demo/refusals.txt", "demo/refusals.out"),
+    ] {
+        assert!(script(&stored(given)) == stored(wanted), "{given}");
+    }
+}
+
+#[test]
+fn a_script_without_room_keeps_the_buffer() {
+    let (given, wanted) = (stored("demo/whole-case.txt"), stored("demo/whole-case.out"));
+    for places in 0..wanted.len() {
+        let mut out = vec![0xAB; places];
+        assert_eq!(script_into(&given, &mut out), Err(Refusal::Short));
+        assert!(out.iter().all(|&c| c == 0xAB), "{places} places");
+    }
+    for places in [wanted.len(), wanted.len() + 1, 1000] {
+        let mut out = vec![0xAB; places];
+        assert_eq!(script_into(&given, &mut out), Ok(wanted.len()));
+        assert_eq!(out[..wanted.len()], wanted);
+        assert!(out[wanted.len()..].iter().all(|&c| c == 0xAB), "{places} places");
+    }
+}
+
+#[test]
+fn contents_of_blocks() {
+    let r = record(1, [1, 0], 30);
+    let all = block_of(&[
+        (7, 2, 5, b"AF-S\0"),
+        (0x1B, 3, 7, &[0; 14]),
+        (0x45, 3, 4, &[0; 8]),
+        (0xB7, 7, 30, &r),
+    ]);
+    let tags = |block: &[u8]| {
+        let mut tags = contents(block).unwrap();
+        tags.sort();
+        tags
+    };
+    assert_eq!(tags(&all), [0x07, 0x1B, 0x45, 0xB7]);
+    assert_eq!(tags(&whole_case()), [0xB7]);
+    assert_eq!(tags(&block_of(&[(8, 2, 2, b"x\0")])), []);
+    // Each once, also where there are two entries; a type that is passed over is not kept.
+    assert_eq!(
+        tags(&block_of(&[(7, 2, 2, b"x\0"), (7, 2, 2, b"y\0"), (0x45, 14, 1, b"z")])),
+        [0x07]
+    );
+    assert_eq!(contents(&whole_case()[..7]), Err(Refusal::Unreadable));
+
+    for places in 0..5 {
+        let mut out = vec![MARK; places];
+        assert_eq!(contents_into(&all, &mut out), Err(Refusal::Short));
+        assert_eq!(contents_into(&all[..7], &mut out), Err(Refusal::Unreadable));
+        assert!(out.iter().all(|&n| n == MARK));
+    }
+    let mut out = [MARK; 7];
+    assert_eq!(contents_into(&whole_case(), &mut out), Ok(()));
+    assert_eq!(out, [1, 0xB7, 0, 0, 0, MARK, MARK]);
+    assert_eq!(contents_into(&all[..7], &mut out), Err(Refusal::Unreadable));
+    assert_eq!(out, [1, 0xB7, 0, 0, 0, MARK, MARK]);
+}
+
+/// The answer's line as `placing_test` prints it.
+fn line_of(answer: Result<Listing, Refusal>) -> String {
+    let listing = match answer {
+        Ok(listing) => listing,
+        Err(why) => return format!("no {}", why.number()),
+    };
+    let mut line = format!(
+        "frame {} {} points {} primary {} mode {} origin {}",
+        listing.frame.width,
+        listing.frame.height,
+        listing.points.len(),
+        listing.primary,
+        listing.mode.map_or(0, |m| m as u32),
+        listing.origin as u32
+    );
+    for p in &listing.points {
+        let area = p.area.unwrap_or(Size { width: 0, height: 0 });
+        let in_focus = p.in_focus.map_or(0, |yes| 1 + yes as u32);
+        let number = p.number.unwrap_or(0);
+        write!(
+            line,
+            " | {number} {} {} {} {} {in_focus}",
+            p.center.x, p.center.y, area.width, area.height
+        )
+        .unwrap();
+    }
+    line
+}
+
+#[test]
+fn stored_loads_are_answered_as_by_the_original() {
+    let loads = stored("crates/placing_test/stdin");
+    let answers = String::from_utf8(stored("crates/placing_test/stdout")).unwrap();
+    let mut lines = answers.lines();
+    let mut count = 0;
+    for load in loads.chunks_exact(512) {
+        let number = |at: usize| u32::from_be_bytes(load[at..at + 4].try_into().unwrap());
+        let size = |at: usize, flag: u8| {
+            (load[0] & flag != 0).then(|| Size { width: number(at), height: number(at + 4) })
+        };
+        let model_len = load[17] as usize;
+        let block_len = u16::from_be_bytes([load[18], load[19]]) as usize;
+        let (model, rest) = load[20..].split_at(model_len);
+        assert_eq!(
+            line_of(photograph(&rest[..block_len], size(1, 1), size(9, 2), model)),
+            lines.next().unwrap()
+        );
+        count += 1;
+    }
+    assert_eq!(lines.next(), None);
+    println!("{count} loads");
+}

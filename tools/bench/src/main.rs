@@ -1,0 +1,118 @@
+//! Times one load on both sides, a listing behind edits, and the lines that focusdesk answers in a second. Prints a table in Markdown.
+//! Usage: bench REPOSITORY, the folder that has crates/ and target/bin/focusdesk.
+
+mod blocks;
+
+use std::env;
+use std::fs::{self, File};
+use std::hint::black_box;
+use std::io::Write;
+use std::path::Path;
+use std::process::{Command, Stdio};
+use std::time::{Duration, Instant};
+
+use blocks::{Load, grown, stored, with_all_points};
+use oracle::{Answer, FocusOrigin};
+
+const ROUNDS: usize = 7;
+
+/// The shortest time of some rounds.
+fn shortest(mut work: impl FnMut()) -> Duration {
+    let rounds = (0..ROUNDS).map(|_| {
+        let start = Instant::now();
+        work();
+        start.elapsed()
+    });
+    rounds.min().unwrap()
+}
+
+/// Nanoseconds a load, of as many passes over the loads as take some tenths of a second.
+fn nanoseconds_a_load(loads: &[Load], mut one: impl FnMut(&Load)) -> f64 {
+    let mut pass = || loads.iter().for_each(&mut one);
+    let once = shortest(&mut pass).as_secs_f64();
+    let passes = (0.2 / once).ceil() as usize;
+    let all = shortest(|| (0..passes).for_each(|_| pass()));
+    all.as_secs_f64() * 1e9 / (passes * loads.len()) as f64
+}
+
+fn original(load: &Load) -> Answer {
+    oracle::load(load.raw, load.picture, &load.model, &load.block)
+}
+
+fn ours(load: &Load, out: &mut [u32]) -> bool {
+    let size = |s: oracle::Size| focuspoints::Size { width: s.width, height: s.height };
+    focuspoints::photograph_into(&load.block, load.raw.map(size), load.picture.map(size), &load.model, out).is_ok()
+}
+
+/// Both sides must accept the same loads before their times mean anything.
+fn loads_row(name: &str, loads: &[Load]) {
+    let mut out = [0; focuspoints::LISTING];
+    for load in loads {
+        assert_eq!(matches!(original(load), Answer::Placed(_)), ours(load, &mut out), "{name}");
+    }
+    let theirs = nanoseconds_a_load(loads, |load| {
+        black_box(original(black_box(load)));
+    });
+    let own = nanoseconds_a_load(loads, |load| {
+        black_box(ours(black_box(load), &mut out));
+    });
+    println!("| {name} | {} | {theirs:.0} | {own:.0} | {:.1} |", loads.len(), theirs / own);
+}
+
+/// How long the program takes for a script from a file.
+fn program_time(program: &Path, script: &[u8]) -> Duration {
+    let path = env::temp_dir().join(format!("bench-{}.txt", std::process::id()));
+    File::create(&path).unwrap().write_all(script).unwrap();
+    let time = shortest(|| {
+        let input = File::open(&path).unwrap();
+        let status = Command::new(program).stdin(input).stdout(Stdio::null()).status().unwrap();
+        assert!(status.success());
+    });
+    fs::remove_file(&path).unwrap();
+    time
+}
+
+fn listing_row(program: &Path, edits: usize) -> f64 {
+    const LISTS: usize = 20_000;
+    let mut script = with_all_points();
+    script.extend(b"03FD\n".repeat(edits));
+    let without = program_time(program, &script);
+    script.extend(b"06FA\n".repeat(LISTS));
+    let listing = (program_time(program, &script) - without).as_secs_f64() * 1e6 / LISTS as f64;
+    println!("| {edits} | {listing:.1} |");
+    listing
+}
+
+fn main() {
+    let root = env::args().nth(1).expect("usage: bench REPOSITORY");
+    let root = Path::new(&root);
+    let program = root.join("target/bin/focusdesk");
+    let all = stored(&fs::read(root.join("crates/placing_test/stdin")).unwrap());
+    let of = |wanted: Option<FocusOrigin>| -> Vec<Load> {
+        let fits = |load: &&Load| match original(load) {
+            Answer::Placed(points) => Some(points.origin()) == wanted,
+            _ => wanted.is_none(),
+        };
+        all.iter().filter(fits).cloned().collect()
+    };
+    let (named, recorded, refused) = (of(Some(FocusOrigin::Table)), of(Some(FocusOrigin::Recorded)), of(None));
+    println!("| loads | how many | the Rust original, ns a load | here, ns a load | times as fast |");
+    println!("|---|---|---|---|---|");
+    loads_row("named points, small blocks", &named);
+    loads_row("recorded positions, small blocks", &recorded);
+    loads_row("refused, small blocks", &refused);
+    let large = |loads: &[Load]| -> Vec<Load> { loads.iter().take(200).map(grown).collect() };
+    loads_row("named points, blocks of 60 KB with 60 entries", &large(&named));
+    loads_row("recorded positions, blocks of 60 KB with 60 entries", &large(&recorded));
+    println!();
+    println!("| edits that stand | a listing of 39 points by focusdesk, µs |");
+    println!("|---|---|");
+    let times: Vec<f64> = [0, 32, 64].into_iter().map(|edits| listing_row(&program, edits)).collect();
+    println!();
+    println!("Behind 64 edits a listing takes {:.2} times as long as behind 32.", times[2] / times[1]);
+    println!();
+    let lines = fs::read(root.join("tools/oracle/stored/lines.txt")).unwrap().repeat(20);
+    let count = lines.iter().filter(|&&c| c == b'\n').count();
+    let time = program_time(&program, &lines).as_secs_f64();
+    println!("focusdesk: {count} lines (the stored loads, each with a list line after it) in {time:.3} s, {:.0} lines a second.", count as f64 / time);
+}
