@@ -1,3 +1,4 @@
 pub mod Script
 pub mod Parts
 pub mod Laws
+pub mod Example
