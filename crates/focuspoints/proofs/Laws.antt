@@ -4,10 +4,9 @@ use Prim.Native.Nat.{ℕ, _≤_}
 use mathlib.Core.Bool.{true, false}
 use mathlib.Core.List.{List}
 use mathlib.Core.Logic.{⊎-elim, _⊎_, inl, inr}
-use mathlib.Core.Path.{_≡_, refl, ap}
+use mathlib.Core.Path.{_≡_, refl}
 use lib.Dec.{ltb}
-use lib.ListN.{length, take}
-use lib.Seq.{length-take-le}
+use lib.ListN.{length}
 use native.Mathlib.Omega.{arith}
 use borrow.Author.Tests.{le-ltb}
 use Rattle.text.proofs.Lists.{by-bool}
@@ -16,23 +15,17 @@ use Rattle.placing.specs.Focus.{focusOf}
 use Rattle.placing.specs.Load.{Focus}
 use Rattle.placing.specs.Sound.{Sound, SoundFocus}
 use Rattle.placing.proofs.Sound.{focus-sound}
-use Rattle.journal.specs.Journal.{frameAfter}
 use Rattle.journal.proofs.Numbers.{Numbered, number, numbered-load}
-use Rattle.focuspoints.specs.Photograph.{listingOf, listingLength, photographNumber, photographBuffer}
+use Rattle.focuspoints.specs.Buffer.{roomNumber, withNumbers}
+use Rattle.focuspoints.specs.Photograph.{listingLength, photographNumber, photographBuffer}
 use Rattle.focuspoints.specs.Laws.{ListsTheLoad, FewNumbers, RoomEnough, RefusedKeeps}
-use Rattle.focuspoints.proofs.Listing.{all-listed}
+use Rattle.focuspoints.proofs.Listing.{whole-listing, whole-length}
 
 pub lists-the-load : ListsTheLoad
-unfolding listingOf frameAfter
-lists-the-load f d =
-    rw (
-      all-listed (f .frame) (f .points),
-      all-listed (f .frame) (take (f .primary) (f .points)),
-      length-take-le (f .primary) (f .points) (omega (arith, d .primary-in)),
-    )
+lists-the-load f d = whole-listing f d
 
 few : (o : Outcome Focus) → Numbered o → (room : ℕ) → (photographNumber o room ≤ 6) ⊎ (photographNumber o room ≡ 13)
-unfolding photographNumber
+unfolding photographNumber roomNumber
 few (refused n) (number _ a b) room = inl b
 few (accepted f) k room =
     ⊎-elim
@@ -44,11 +37,10 @@ pub few-numbers : FewNumbers
 few-numbers block raw picture model room = few (focusOf block raw picture model) (numbered-load block raw picture model) room
 
 most : (f : Focus) → SoundFocus f → listingLength f ≤ 240
-unfolding listingLength
-most f d = omega (arith, d .room, ap length (all-listed (f .frame) (f .points)))
+most f d = omega (arith, d .room, whole-length f)
 
 enough : (o : Outcome Focus) → Numbered o → Sound o → (room : ℕ) → 240 ≤ room → photographNumber o room ≤ 6
-unfolding photographNumber
+unfolding photographNumber roomNumber
 enough (refused n) (number _ a b) d room h = b
 enough (accepted f) k d room h = rw (le-ltb room (listingLength f) (omega (arith, most f d))) (omega arith)
 
@@ -57,7 +49,7 @@ room-enough block raw picture model room h =
     enough (focusOf block raw picture model) (numbered-load block raw picture model) (focus-sound block raw picture model) room h
 
 keeps : (o : Outcome Focus) (out : List ℕ) → (photographNumber o (length out) ≡ 0 → ⊥) → photographBuffer o out ≡ out
-unfolding photographNumber photographBuffer
+unfolding photographNumber photographBuffer roomNumber withNumbers
 keeps (refused n) out z = refl
 keeps (accepted f) out z =
     ⊎-elim

@@ -18,7 +18,8 @@ use Rattle.tiff.specs.declared.io.ByteOrder.{ByteOrder}
 use Rattle.reading.specs.declared.nikon.TagList.{TagList}
 use Rattle.reading.specs.declared.nikon.ContentsAnswer.the-variants.{Unreadable, Listed}
 use Rattle.sheet.specs.Listing.{over}
-use Rattle.focuspoints.specs.Contents.{tagsNumber, tagsBuffer, contentsNumberOf, contentsBufferOf, Told, tellsIn, Tells}
+use Rattle.focuspoints.specs.Buffer.{roomNumber, withNumbers}
+use Rattle.focuspoints.specs.Contents.{contentsNumberOf, contentsBufferOf, Told, tellsIn, Tells}
 
 apart : {A : Type 0} → Unreadable ≡ Listed → A
 apart e = let y : _≡_ {A = ℕ} 0 1 = cc in absurd (omega arith)
@@ -42,9 +43,9 @@ told wanted n ts l l′ e h el x =
 
 module _ (s l : List ℕ) where
   tells : (o : ByteOrder) (n : ℕ) (l′ : List ℕ) → length (keptTags o s) ≤ 4 → Holds (keptTags o s) (length (keptTags o s)) (listed (keptTags o s) .tags)
-      → n ≡ tagsNumber (length l) → l′ ≡ tagsBuffer (length (keptTags o s) ∷ listed (keptTags o s) .tags) l
+      → n ≡ roomNumber 5 (length l) → l′ ≡ withNumbers 5 (length (keptTags o s) ∷ listed (keptTags o s) .tags) l
       → tellsIn (ltb (length l) 5) (keptTags o s) l n l′
-  unfolding tagsNumber tagsBuffer
+  unfolding roomNumber withNumbers
   tells o n l′ k x en el =
       ⊎-elim
       (λ (t : ltb (length l) 5 ≡ true). rw t (en ∙ rw t, el ∙ rw t))
@@ -60,13 +61,13 @@ module _ (s l : List ℕ) where
   no-tags (accepted o) r e f = apart (sym f ∙ ap (λ (x : TagList). x .answer) e)
 
   some-tags : (b : Outcome ByteOrder) (r : TagList) (n : ℕ) (l′ : List ℕ) → r ≡ contentsIn b s → r .count ≤ 4 → ContentsOf b s r → r .answer ≡ Listed
-      → (n ≡ tagsNumber (length l)) × (l′ ≡ tagsBuffer (r .count ∷ r .tags) l)
+      → (n ≡ roomNumber 5 (length l)) × (l′ ≡ withNumbers 5 (r .count ∷ r .tags) l)
       → (n ≡ contentsNumberOf (contentsIn b s) (length l)) × (l′ ≡ contentsBufferOf (contentsIn b s) l) × Tells b s l n l′
   unfolding contentsIn contentsNumberOf contentsBufferOf Tells ContentsOf
   some-tags (refused m) r n l′ e k x f p = apart (sym (ap (λ (y : TagList). y .answer) e) ∙ f)
   some-tags (accepted o) r n l′ e k x f p =
-      let t : l′ ≡ tagsBuffer (length (keptTags o s) ∷ listed (keptTags o s) .tags) l =
-      p .1 ∙ ap (λ (y : TagList). tagsBuffer (y .count ∷ y .tags) l) e in
+      let t : l′ ≡ withNumbers 5 (length (keptTags o s) ∷ listed (keptTags o s) .tags) l =
+      p .1 ∙ ap (λ (y : TagList). withNumbers 5 (y .count ∷ y .tags) l) e in
       (p .0, t, tells o n l′ (rw e at k) (rw e at x) (p .0) t)
 
   pub contents-no : (r : TagList) → r ≡ contentsOf s → r .answer ≡ Unreadable
@@ -74,6 +75,6 @@ module _ (s l : List ℕ) where
   contents-no r e f = no-tags (blockOf s) r e f
 
   pub contents-yes : (r : TagList) (n : ℕ) (l′ : List ℕ) → r ≡ contentsOf s → r .count ≤ 4 → ContentsOf (blockOf s) s r → r .answer ≡ Listed
-      → (n ≡ tagsNumber (length l)) × (l′ ≡ tagsBuffer (r .count ∷ r .tags) l)
+      → (n ≡ roomNumber 5 (length l)) × (l′ ≡ withNumbers 5 (r .count ∷ r .tags) l)
       → (n ≡ contentsNumberOf (contentsOf s) (length l)) × (l′ ≡ contentsBufferOf (contentsOf s) l) × Tells (blockOf s) s l n l′
   contents-yes r n l′ e k x f p = some-tags (blockOf s) r n l′ e k x f p

@@ -1,6 +1,6 @@
 -- Which of the four tags a block has, in a buffer: their number, and four places with the tags.
 use Prim.Native.Nat.{ℕ}
-use mathlib.Core.Bool.{Bool, true, false, cond}
+use mathlib.Core.Bool.{Bool, true, false}
 use mathlib.Core.List.{List, _∷_}
 use mathlib.Core.Path.{_≡_}
 use lib.Dec.{ltb}
@@ -11,27 +11,19 @@ use Rattle.tiff.specs.declared.io.ByteOrder.{ByteOrder}
 use Rattle.reading.specs.declared.nikon.TagList.{TagList}
 use Rattle.reading.specs.declared.nikon.ContentsAnswer.{ContentsAnswer}
 use Rattle.reading.specs.declared.nikon.ContentsAnswer.the-variants.{Unreadable, Listed}
-use Rattle.sheet.specs.Listing.{over}
-
--- 13 where a buffer of `room` places has none for five numbers
-unfoldable pub tagsNumber : ℕ → ℕ
-tagsNumber room = cond (ltb room 5) 13 0
-
--- five numbers at the buffer's front, the rest kept
-unfoldable pub tagsBuffer : List ℕ → List ℕ → List ℕ
-tagsBuffer five out = cond (ltb (length out) 5) out (over five out)
+use Rattle.focuspoints.specs.Buffer.{roomNumber, withNumbers}
 
 -- 1 where the block cannot be read, then 13
 abbrev pub numberBy : ContentsAnswer → ℕ → ℕ
 numberBy Unreadable room = 1
-numberBy Listed room = tagsNumber room
+numberBy Listed room = roomNumber 5 room
 
 unfoldable pub contentsNumberOf : TagList → ℕ → ℕ
 contentsNumberOf r room = numberBy (r .answer) room
 
 abbrev pub bufferBy : ContentsAnswer → List ℕ → List ℕ → List ℕ
 bufferBy Unreadable five out = out
-bufferBy Listed five out = tagsBuffer five out
+bufferBy Listed five out = withNumbers 5 five out
 
 -- "count and tags"; kept where the number is not 0
 unfoldable pub contentsBufferOf : TagList → List ℕ → List ℕ

@@ -1,5 +1,5 @@
+pub mod Buffer
 pub mod Photograph
 pub mod Script
 pub mod Contents
-pub mod Parts
 pub mod Laws

@@ -3,13 +3,14 @@
 use Prim.Native.Nat.{ℕ, _+_, _*_}
 use mathlib.Core.Bool.{cond}
 use mathlib.Core.List.{List, [], _++_}
-use lib.Dec.{eqb, ltb}
-use lib.ListN.{length, drop}
+use lib.Dec.{eqb}
+use lib.ListN.{length}
 use Rattle.tiff.specs.Outcome.{Outcome, refused, accepted}
 use Rattle.reading.specs.declared.geometry.OptionalSize.{OptionalSize}
 use Rattle.reading.specs.declared.geometry.OptionalSize.the-variants.{Missing, Given}
 use Rattle.placing.specs.Load.{Focus}
 use Rattle.journal.specs.Journal.{presentFrame, listing, head, numbers}
+use Rattle.focuspoints.specs.Buffer.{roomNumber, withNumbers}
 
 -- "raw and picture sizes (each may be missing)": a size is missing where its first number is 0, and then its sides are not looked at
 unfoldable pub sizeOf : ℕ → ℕ → ℕ → OptionalSize
@@ -26,9 +27,9 @@ listingLength f = 6 + 6 * length (listing f [])
 -- 1 to 6 as the load is judged, 13 where a buffer of `room` places is too short, or 0
 unfoldable pub photographNumber : Outcome Focus → ℕ → ℕ
 photographNumber (refused n) room = n
-photographNumber (accepted f) room = cond (ltb room (listingLength f)) 13 0
+photographNumber (accepted f) room = roomNumber (listingLength f) room
 
 -- the listing at the buffer's front, the rest kept; the whole buffer is kept where the number is not 0
 unfoldable pub photographBuffer : Outcome Focus → List ℕ → List ℕ
 photographBuffer (refused n) out = out
-photographBuffer (accepted f) out = cond (ltb (length out) (listingLength f)) out (listingOf f ++ drop (listingLength f) out)
+photographBuffer (accepted f) out = withNumbers (listingLength f) (listingOf f) out

@@ -1,29 +1,25 @@
 // A library for C and Rust: one photograph's focus points, a whole script of call lines, and a note's contents. What is exported takes
 // numbers and slices (a pointer and a length each) and asks nothing of what they hold.
+use placing::focus::FocusAnswer;
+use placing::focus::FocusPoints;
 use reading::geometry::OptionalSize;
 use reading::geometry::Size;
 use reading::nikon::ContentsAnswer;
 use script::Answered;
-use sheet::Loaded;
-use sheet::Sheet;
-use sheet::list::ListAnswer;
 use sheet::list::Listing;
 ghost use mathlib.Core.Path.{_≡_};
 ghost use mathlib.Core.List.{_∷_};
-ghost use Prim.Native.Nat.{_≤_};
+ghost use Prim.Native.Nat.{_+_, _*_, _≤_};
 ghost use lib.ListN.{length};
 ghost use Rattle.tiff.specs.Block.{blockOf};
 ghost use Rattle.reading.specs.Contents.{contentsOf};
 ghost use Rattle.placing.specs.Focus.{focusOf};
-ghost use Rattle.sheet.specs.Sheet.{freshSheet, loadSheet};
-ghost use Rattle.sheet.specs.Listing.{over, listNumber, headNumbers};
-ghost use Rattle.journal.specs.Calls.{given};
-ghost use Rattle.session.specs.Lines.{fewPoints};
+ghost use Rattle.sheet.specs.Listing.{over, headNumbers};
 ghost use Rattle.script.specs.Script.{scriptText, bufferWith};
 ghost use Rattle.focuspoints.specs.Photograph.{sizeOf, photographNumber, photographBuffer};
 ghost use Rattle.focuspoints.specs.Script.{scriptLength};
-ghost use Rattle.focuspoints.specs.Contents.{tagsNumber, tagsBuffer, contentsNumberOf, contentsBufferOf, Tells};
-ghost use Rattle.focuspoints.specs.Parts.{shownNumber, shownBuffer};
+ghost use Rattle.focuspoints.specs.Contents.{contentsNumberOf, contentsBufferOf, Tells};
+ghost use Rattle.focuspoints.specs.Buffer.{roomNumber, withNumbers, laidNumbers};
 
 // A size that is given where the first number is not 0.
 fn size_of(given: u32, width: u32, height: u32) -> OptionalSize
@@ -33,14 +29,6 @@ fn size_of(given: u32, width: u32, height: u32) -> OptionalSize
         return OptionalSize::Missing;
     }
     OptionalSize::Given(Size { width, height })
-}
-
-// A load on a new sheet.
-fn load_new(block: &[u8], raw: OptionalSize, picture: OptionalSize, model: &[u8]) -> Loaded
-    ensures { λ r. ⌜ r ≡ loadSheet freshSheet (focusOf (now (block .entry)) raw picture (now (model .entry))) ⌝ }
-{
-    let sheet = Sheet::new();
-    sheet.load(block, raw, picture, model)
 }
 
 // Writes the six numbers of a listing's head at the buffer's front.
@@ -59,31 +47,31 @@ fn put_head(l: Listing, out: &mut [u32])
     out[5] = placing::focus::origin_number(origin);
 }
 
-// 01's number for how a listing ends; its head at the buffer's front, if there is one.
-fn put_answer(answer: ListAnswer, out: &mut [u32]) -> u32
-    requires { ⌜ fewPoints answer × (6 ≤ length (now out)) ⌝ }
-    ensures { λ r. ⌜ (r ≡ listNumber answer) × (now (out .exit) ≡ over (given answer) (now (out .entry))) ⌝ }
-{
-    match answer {
-        ListAnswer::Empty => 7,
-        ListAnswer::ZeroBox => 12,
-        ListAnswer::Short => 13,
-        ListAnswer::Listed(l) => {
-            put_head(l, out);
-            0
-        }
-    }
-}
-
-// The whole listing of a sheet: the head's six numbers, and six numbers a point.
-fn list_whole(sheet: Sheet, out: &mut [u32]) -> u32
-    ensures { λ r. ⌜ (r ≡ shownNumber sheet (now (out .entry))) × (now (out .exit) ≡ shownBuffer sheet (now (out .entry))) ⌝ }
+// The listing of a load's points, where it has room: the head's six numbers, and six numbers a point.
+fn put_listing(focus: FocusPoints, out: &mut [u32]) -> u32
+    requires { ⌜ (focus .count ≤ 39) × (focus .primary ≤ 39) ⌝ }
+    ensures { λ r. ⌜ (r ≡ roomNumber (6 + 6 * focus .count) (length (now (out .entry)))) × (now (out .exit) ≡ withNumbers (6 + 6 * focus .count) (laidNumbers focus) (now (out .entry))) ⌝ }
 {
     if out.len() < 6 {
         return 13;
     }
-    let answer = sheet.list(&mut out[6..]);
-    put_answer(answer, out)
+    let points = focus.points;
+    let count = focus.count;
+    if !sheet::list::write_points(points, count, &mut out[6..]) {
+        return 13;
+    }
+    let frame = focus.frame;
+    let mode = focus.area_mode;
+    let origin = focus.origin;
+    let head = Listing {
+        frame,
+        count,
+        index: focus.primary,
+        mode,
+        origin,
+    };
+    put_head(head, out);
+    0
 }
 
 // One photograph: 01's number where there are no points, 13 where the buffer is too short for them, and 0 with the listing written.
@@ -103,14 +91,12 @@ pub extern "C" fn focuspoints_photograph(
 {
     let raw = size_of(raw_given, raw_width, raw_height);
     let picture = size_of(picture_given, picture_width, picture_height);
-    let done = load_new(block, raw, picture, model);
-    let answer = done.answer;
-    let n = sheet::load_number(answer);
-    if n != 0 {
-        return n;
+    let focus = placing::nikon::focus(block, raw, picture, model);
+    let answer = focus.answer;
+    match answer {
+        FocusAnswer::Refused(why) => placing::focus::refusal_number(why),
+        FocusAnswer::Placed => put_listing(focus, out),
     }
-    let sheet = done.sheet;
-    list_whole(sheet, out)
 }
 
 // A whole script: the length of the text that its lines are answered, written at the buffer's front; the largest number where it has
@@ -135,7 +121,7 @@ fn wide(tag: u16) -> u32
 // Writes a count and four tags at the buffer's front, where there is room.
 fn put_tags(count: usize, tags: [u16; 4], out: &mut [u32]) -> u32
     requires { ⌜ count ≤ 4 ⌝ }
-    ensures { λ r. ⌜ (r ≡ tagsNumber (length (now (out .entry)))) × (now (out .exit) ≡ tagsBuffer (count ∷ tags) (now (out .entry))) ⌝ }
+    ensures { λ r. ⌜ (r ≡ roomNumber 5 (length (now (out .entry)))) × (now (out .exit) ≡ withNumbers 5 (count ∷ tags) (now (out .entry))) ⌝ }
 {
     if out.len() < 5 {
         return 13;

@@ -1,14 +1,17 @@
--- Six numbers a point, and numbers written over a buffer's front: lengths, and one more point. Assumes nothing.
+-- Six numbers a point, and numbers written over a buffer's front: lengths, one more point, and with or without room. Assumes nothing.
 use Prim.Native.Nat.{ℕ, _+_, _*_, _<_, _≤_}
+use mathlib.Core.Bool.{Bool, true, false, not, and-false}
 use mathlib.Core.List.{List, [], _∷_, _++_, append-assoc}
 use mathlib.Core.Path.{_≡_, refl, sym, ap, _∙_}
 use lib.ListN.{getD, length, take, drop, length-append, length-drop}
 use lib.Seq.{take-suc, length-take-le, sets, sets-eq, take-append-seam, drop-append-add, drop-drop}
 use native.Mathlib.Omega.{arith}
+use lib.Dec.{leb}
+use borrow.Author.Tests.{leb-true, leb-false, le-leb, lt-leb, not-true, not-false}
 use native.Mathlib.Numerals.{add-one}
 use Rattle.fitting.specs.declared.focus.FocusPoint.{FocusPoint}
 use Rattle.placing.specs.Load.{noPoint}
-use Rattle.sheet.specs.Listing.{six, flat, over}
+use Rattle.sheet.specs.Listing.{six, flat, over, hasRoom, withPoints}
 
 pub six-length : (p : FocusPoint) → length (six p) ≡ 6
 unfolding six
@@ -37,7 +40,16 @@ over-more vs ws l h =
     sets-eq ws (over vs l) (length vs) (rw (over-length vs l (omega arith)) h)
     ∙ rw (take-append-seam vs (drop (length vs) l), drop-append-add vs (drop (length vs) l) (length ws), drop-drop (length ws) (length vs) l, length-append vs ws)
 
--- the first i of 39 points are written over out₀, of n that have room in it
+-- ---- points without room are not written
+pub too-many : (ps : List FocusPoint) (n : ℕ) (b : List ℕ) → 39 < n → (false ≡ hasRoom n (length b)) × (b ≡ withPoints ps n b)
+unfolding hasRoom withPoints
+too-many ps n b h = rw (lt-leb n 39 h) (refl, refl)
+
+pub too-short : (ps : List FocusPoint) (n : ℕ) (b : List ℕ) → length b < 6 * n → (false ≡ hasRoom n (length b)) × (b ≡ withPoints ps n b)
+unfolding hasRoom withPoints
+too-short ps n b h = rw (lt-leb (6 * n) (length b) h, and-false (leb n 39)) (refl, refl)
+
+-- ---- the first i of 39 points are written over out₀, of n that have room in it
 module _ (ps : List FocusPoint) (lp : length ps ≡ 39) (n : ℕ) (hn : n ≤ 39) (out out₀ : List ℕ) (room : 6 * n ≤ length out₀)
     (i : ℕ) (hi : i ≤ n) (eo : out ≡ over (flat (take i ps)) out₀) where
   written : length (flat (take i ps)) ≡ i * 6
@@ -59,5 +71,27 @@ module _ (ps : List FocusPoint) (lp : length ps ≡ 39) (n : ℕ) (hn : n ≤ 39
       ∙ over-more (flat (take i ps)) (six p) out₀ (omega (arith, written, six-length p))
       ∙ sym (ap (λ (l : List ℕ). over l out₀) g)
 
-  pub all-written : n ≤ i → out ≡ over (flat (take n ps)) out₀
-  all-written h = let e : i ≡ n = omega arith in eo ∙ rw e
+  pub all-written : n ≤ i → (true ≡ hasRoom n (length out₀)) × (out ≡ withPoints ps n out₀)
+  unfolding hasRoom withPoints
+  all-written h =
+      let e : i ≡ n = omega arith in
+      rw (le-leb n 39 hn, le-leb (6 * n) (length out₀) room) (refl, eo ∙ rw e)
+
+-- ---- what `write_points` says of n points, 39 at the most
+module _ (ps : List FocusPoint) (n : ℕ) (h : n ≤ 39) (b out : List ℕ) (w : Bool)
+    (p : (w ≡ hasRoom n (length b)) × (out ≡ withPoints ps n b)) where
+  by-length : hasRoom n (length b) ≡ leb (6 * n) (length b)
+  unfolding hasRoom
+  by-length = rw (le-leb n 39 h)
+
+  pub no-room : not w ≡ true → (length b < 6 * n) × (out ≡ b)
+  unfolding withPoints
+  no-room t =
+      let e : hasRoom n (length b) ≡ false = sym (p .0) ∙ not-true w t in
+      (leb-false (6 * n) (length b) (sym by-length ∙ e), p .1 ∙ rw e)
+
+  pub has-room : not w ≡ false → (6 * n ≤ length b) × (out ≡ over (flat (take n ps)) b)
+  unfolding withPoints
+  has-room t =
+      let e : hasRoom n (length b) ≡ true = sym (p .0) ∙ not-false w t in
+      (leb-true (6 * n) (length b) (sym by-length ∙ e), p .1 ∙ rw e)

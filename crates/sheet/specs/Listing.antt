@@ -1,9 +1,9 @@
 -- 01, "After the sheet": what list and fit answer and write, for every sheet and buffer.
 use Prim.Native.Nat.{ℕ, zero, suc, _*_}
-use mathlib.Core.Bool.{Bool, cond}
+use mathlib.Core.Bool.{Bool, cond, _&&_}
 use mathlib.Core.List.{List, [], _∷_, _++_, map}
-use lib.Dec.{ltb}
-use lib.ListN.{length, drop}
+use lib.Dec.{leb, ltb}
+use lib.ListN.{length, take, drop}
 use Rattle.reading.specs.Focus.{inFocusNumber, modeNumber}
 use Rattle.reading.specs.declared.geometry.Size.{Size}
 use Rattle.fitting.specs.declared.focus.FocusPoint.{FocusPoint}
@@ -75,6 +75,14 @@ flat (p ∷ ps) = six p ++ flat ps
 -- some numbers written at a buffer's front: "the rest of the buffer is kept"
 abbrev pub over : List ℕ → List ℕ → List ℕ
 over vs b = vs ++ drop (length vs) b
+
+-- whether the first n of 39 points have room in a buffer of m places
+unfoldable pub hasRoom : ℕ → ℕ → Bool
+hasRoom n m = leb n 39 && leb (6 * n) m
+
+-- the first n points, written at a buffer's front where they have room
+unfoldable pub withPoints : List FocusPoint → ℕ → List ℕ → List ℕ
+withPoints ps n b = cond (hasRoom n (length b)) (over (flat (take n ps)) b) b
 
 -- 13, for a buffer of m places: "buffer shorter than 6 × count"
 unfoldable pub isShort : Sheet → ℕ → Bool

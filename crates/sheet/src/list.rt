@@ -6,10 +6,10 @@ use reading::focus::FocusAreaMode;
 use reading::geometry::Size;
 ghost use mathlib.Core.Path.{_≡_};
 ghost use mathlib.Core.List.{[], _++_};
-ghost use Prim.Native.Nat.{_+_, _*_, _<_, _≤_};
+ghost use Prim.Native.Nat.{_+_, _<_, _≤_};
 ghost use lib.ListN.{length, take, drop};
 ghost use lib.Seq.{sets};
-ghost use Rattle.sheet.specs.Listing.{listNumber, six, flat, over, rowOf, listing, presentOf, scaledAll, listAnswer, listBuffer, fitAnswer, fitBuffer};
+ghost use Rattle.sheet.specs.Listing.{listNumber, six, hasRoom, withPoints, rowOf, listing, presentOf, scaledAll, listAnswer, listBuffer, fitAnswer, fitBuffer};
 
 // What a listing says beside its points: their frame and number, and the primary's index among them.
 pub struct Listing {
@@ -70,17 +70,24 @@ fn put_point(out: &mut [u32], at: usize, point: FocusPoint)
     out[at + 5] = reading::focus::in_focus_number(in_focus);
 }
 
-// Writes the first n points at the buffer's front.
-fn write_points(points: [FocusPoint; 39], n: usize, out: &mut [u32])
-    requires { ⌜ (n ≤ 39) × (6 * n ≤ length (now out)) ⌝ }
-    ensures { λ _. ⌜ now (out .exit) ≡ over (flat (take n points)) (now (out .entry)) ⌝ }
+// Writes the first n points at the buffer's front, six numbers each. Where there are not so many, or no room for them, nothing is
+// written, and the answer is no.
+pub fn write_points(points: [FocusPoint; 39], n: usize, out: &mut [u32]) -> bool
+    ensures { λ r. ⌜ (r ≡ hasRoom n (length (now (out .entry)))) × (now (out .exit) ≡ withPoints points n (now (out .entry))) ⌝ }
 {
+    if 39 < n {
+        return false;
+    }
+    if out.len() < 6 * n {
+        return false;
+    }
     let mut i: usize = 0;
     while i < n {
         let p = points[i];
         put_point(out, i * 6, p);
         i += 1;
     }
+    true
 }
 
 // The first n points measured in another frame, the others as they are.
@@ -160,11 +167,10 @@ impl Sheet {
         }
         let present = self.present();
         let count = present.count;
-        if out.len() < 6 * count {
+        let points = present.points;
+        if !write_points(points, count, out) {
             return ListAnswer::Short;
         }
-        let points = present.points;
-        write_points(points, count, out);
         let frame = present.frame;
         let mode = self.area_mode;
         let origin = self.origin;
@@ -189,13 +195,12 @@ impl Sheet {
         }
         let present = self.present();
         let count = present.count;
-        if out.len() < 6 * count {
-            return ListAnswer::Short;
-        }
         let points = present.points;
         let frame = present.frame;
         let scaled = scaled_points(points, count, frame, size);
-        write_points(scaled, count, out);
+        if !write_points(scaled, count, out) {
+            return ListAnswer::Short;
+        }
         let mode = self.area_mode;
         let origin = self.origin;
         ListAnswer::Listed(Listing {

@@ -1,5 +1,6 @@
--- `focuspoints_photograph`: by the load's number, with the laws of proofs/Listing.antt. Assumes nothing.
+-- `focuspoints_photograph`: a load's number, or the listing of its points. Assumes nothing.
 use Rattle.focuspoints.proofs.Listing as listing
+use borrow.Author.Needs.{needs}
 use borrow.Author.Needs.{needs}
 use Rattle.focuspoints.proofs.focuspoints_photograph.Statement.{statement}
 use Rattle.focuspoints.proofs.focuspoints_photograph.Tie as tie
@@ -10,23 +11,29 @@ size-of-requires c κs = search needs
 size-of-requires-2 : tie.Need-size-of-requires-2
 size-of-requires-2 c κs = search needs
 
-load-new-requires : tie.Need-load-new-requires
-load-new-requires c κs = search needs
+focus-requires : tie.Need-focus-requires
+focus-requires c κs = search needs
 
-load-number-requires : tie.Need-load-number-requires
-load-number-requires c κs = search needs
+enum-known-answer : tie.Need-enum-known-answer
+enum-known-answer c = search needs
+
+refusal-number-requires : tie.Need-refusal-number-requires
+refusal-number-requires c κs = search needs
+
+enum-told : tie.Need-enum-told
+enum-told c = search needs
+
+put-listing-requires : tie.Need-put-listing-requires
+put-listing-requires c κs = listing.photograph-few _ _ _ _ _ _ (c .before .before .before .before .before .size-of .ensures) (c .before .before .before .before .size-of2 .ensures) _ (c .before .before .before .focus .ensures) (c .before .before .before .before .before .before .before .before .before .args .out .now) (c .before .enum-told .given .1)
 
 returns : tie.Need-returns
-returns c = listing.photograph-no _ _ _ _ _ _ (c .before .before .before .before .size-of .ensures) (c .before .before .before .size-of2 .ensures) _ (c .before .before .load-new .ensures) _ (c .before .load-number .ensures) _ (c .if1 .taken)
-
-list-whole-requires : tie.Need-list-whole-requires
-list-whole-requires c κs = search needs
+returns c = listing.photograph-no _ _ _ _ _ _ (c .before .before .before .before .before .before .size-of .ensures) (c .before .before .before .before .before .size-of2 .ensures) _ (c .before .before .before .before .focus .ensures) _ _ _ (c .refusal-number .ensures) (c .before .before .answer .given .1)
 
 same-length : tie.Need-same-length
 same-length c = search needs
 
 returns-2 : tie.Need-returns-2
-returns-2 c = listing.photograph-yes _ _ _ _ _ _ (c .before .before .before .before .before .before .before .before .before .size-of .ensures) (c .before .before .before .before .before .before .before .before .size-of2 .ensures) _ (c .before .before .before .before .before .before .before .load-new .ensures) _ (c .before .before .before .before .before .before .load-number .ensures) _ (c .before .before .before .before .before .if1 .left) _ _ (c .before .before .list-whole .ensures)
+returns-2 c = listing.photograph-yes _ _ _ _ _ _ (c .before .before .before .before .before .before .before .before .size-of .ensures) (c .before .before .before .before .before .before .before .size-of2 .ensures) _ (c .before .before .before .before .before .before .focus .ensures) (c .before .before .before .before .before .before .before .before .before .before .before .before .args .out .now) (c .before .before .before .before .enum-told .given .1) _ _ (c .before .before .put-listing .ensures)
 
 pub focuspoints-photograph-spec : {M : Type 1} → statement M
 focuspoints-photograph-spec =
@@ -34,9 +41,11 @@ focuspoints-photograph-spec =
     (tie.spec
     size-of-requires
     size-of-requires-2
-    load-new-requires
-    load-number-requires
+    focus-requires
+    enum-known-answer
+    refusal-number-requires
+    enum-told
+    put-listing-requires
     returns
-    list-whole-requires
     same-length
     returns-2)

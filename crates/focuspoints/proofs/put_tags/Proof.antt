@@ -7,7 +7,7 @@ use Rattle.focuspoints.proofs.put_tags.Statement.{statement}
 use Rattle.focuspoints.proofs.put_tags.Tie as tie
 
 returns : tie.Need-returns
-returns c = buffers.tags-short _ _ (c .if1 .taken)
+returns c = buffers.too-short 5 _ _ (c .if1 .taken)
 
 cast-out : tie.Need-cast-out
 cast-out c = search needs
@@ -55,7 +55,7 @@ same-length : tie.Need-same-length
 same-length c = search needs
 
 returns-2 : tie.Need-returns-2
-returns-2 c = buffers.tags-room _ ((c .before .before .before .before .before .before .args .out .now)) _ (c .before .before .before .before .if1 .left) (buffers.tag-stores ((c .before .before .before .before .before .before .args .out .now)) (c .before .before .before .before .before .before .args .t2) _ _ _ _ _ (omega (arith, (c .before .before .before .before .before .before .good))) (c .before .before .before .wide .ensures) (c .before .before .wide2 .ensures) (c .before .wide3 .ensures) (c .wide4 .ensures) (c .before .before .before .before .if1 .left))
+returns-2 c = buffers.long-enough 5 _ ((c .before .before .before .before .before .before .args .out .now)) _ (c .before .before .before .before .if1 .left) (buffers.tag-stores ((c .before .before .before .before .before .before .args .out .now)) (c .before .before .before .before .before .before .args .t2) _ _ _ _ _ (omega (arith, (c .before .before .before .before .before .before .good))) (c .before .before .before .wide .ensures) (c .before .before .wide2 .ensures) (c .before .wide3 .ensures) (c .wide4 .ensures) (c .before .before .before .before .if1 .left))
 
 pub put-tags-spec : {M : Type 1} → statement M
 put-tags-spec =

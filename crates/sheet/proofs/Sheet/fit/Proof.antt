@@ -2,8 +2,7 @@
 use mathlib.Core.Path.{_≡_, refl, sym, ap, _∙_}
 use mathlib.Core.Bool.{Bool, true, false, not}
 use mathlib.Core.List.{List, _++_}
-use Prim.Native.Nat.{ℕ, _*_, _<_, _≤_}
-use native.Mathlib.Omega.{arith}
+use Prim.Native.Nat.{ℕ}
 use lib.ListN.{length, take, drop, length-map}
 use lib.Seq.{take-at}
 use borrow.Author.Tests.{not-true, not-false}
@@ -14,9 +13,11 @@ use Rattle.sheet.specs.declared.Sheet.{Sheet}
 use Rattle.sheet.specs.declared.list.ListAnswer.the-variants.{Empty, ZeroBox, Short, Listed}
 use Rattle.sheet.specs.declared.list.Present.{Present}
 use Rattle.sheet.specs.Sheet.{usable, presentFrame}
-use Rattle.sheet.specs.Listing.{flat, over, listed, listCount, presentOf, scaledAll, fitAnswer, fitBuffer}
+use Rattle.sheet.specs.Listing.{flat, over, hasRoom, withPoints, listed, listCount, presentOf, scaledAll, fitAnswer, fitBuffer}
 use Rattle.sheet.proofs.Usable.{counts}
 use Rattle.sheet.proofs.Present.{count-of, count-room, frame-of, points-of, short, long, head-of}
+use Rattle.sheet.proofs.Buffer.{no-room, has-room}
+use borrow.Author.Needs.{needs}
 use borrow.Author.Needs.{needs}
 use Rattle.sheet.proofs.Sheet.fit.Statement.{statement}
 use Rattle.sheet.proofs.Sheet.fit.Tie as tie
@@ -47,21 +48,24 @@ module _ (s : Sheet) (box : Size) (r : Bool) (e : r ≡ usable s) (b : List ℕ)
     unfolding fitAnswer fitBuffer
     zero-box t = rw (← e, not-false r n, ← ez, t) (refl, refl)
 
-    module _ (t : z ≡ false) (v : Present) (ev : v ≡ presentOf s) where
-      no-room : length b < 6 * v .count → (Short ≡ fitAnswer s box (length b)) × (b ≡ fitBuffer s box b)
+    module _ (t : z ≡ false) (v : Present) (ev : v ≡ presentOf s) (qs : List FocusPoint)
+        (g : qs ≡ scaledAll (v .frame) box (take (v .count) (v .points)) ++ drop (v .count) (v .points)) (w : Bool) (out : List ℕ)
+        (p : (w ≡ hasRoom (v .count) (length b)) × (out ≡ withPoints qs (v .count) b)) where
+      too-short : not w ≡ true → (Short ≡ fitAnswer s box (length b)) × (out ≡ fitBuffer s box b)
       unfolding fitAnswer fitBuffer
-      no-room a = rw (← e, not-false r n, ← ez, t, short s v ev (length b) a) (refl, refl)
+      too-short y =
+          let k = no-room qs (v .count) (count-room s v ev (counts s r e n)) b out w p y in
+          rw (← e, not-false r n, ← ez, t, short s v ev (length b) (k .0)) (refl, k .1)
 
-      all-listed : 6 * v .count ≤ length b → (qs : List FocusPoint)
-          → qs ≡ scaledAll (v .frame) box (take (v .count) (v .points)) ++ drop (v .count) (v .points)
-          → (out : List ℕ) → out ≡ over (flat (take (v .count) qs)) b
+      all-listed : not w ≡ false
           → (Listed (record { frame = box; count = v .count; index = v .index; mode = s .«area_mode»; origin = s .origin }) ≡ fitAnswer s box (length b))
           × (out ≡ fitBuffer s box b)
       unfolding fitAnswer fitBuffer
-      all-listed a qs g out eo =
-          rw (← e, not-false r n, ← ez, t, long s v ev (length b) a) (
+      all-listed y =
+          let k = has-room qs (v .count) (count-room s v ev (counts s r e n)) b out w p y in
+          rw (← e, not-false r n, ← ez, t, long s v ev (length b) (k .0)) (
             ap Listed (head-of s v ev box),
-            eo ∙ ap (λ (ps : List FocusPoint). over (flat ps) b) (scaled-listed s box v ev qs g),
+            k .1 ∙ ap (λ (ps : List FocusPoint). over (flat ps) b) (scaled-listed s box v ev qs g),
           )
 
 is-usable-requires : tie.Need-is-usable-requires
@@ -74,54 +78,28 @@ has-zero-side-requires : tie.Need-has-zero-side-requires
 has-zero-side-requires c κs = search needs
 
 returns-2 : tie.Need-returns-2
-returns-2 c =
-    zero-box _ _ _ (c .before .before .before .is-usable .ensures) _ (c .before .before .if1 .left) _
-    (c .before .has-zero-side .ensures) (c .if2 .taken)
+returns-2 c = zero-box _ _ _ (c .before .before .before .is-usable .ensures) _ (c .before .before .if1 .left) _ (c .before .has-zero-side .ensures) (c .if2 .taken)
 
 present-requires : tie.Need-present-requires
-present-requires c κs =
-    let u = counts _ _ (c .before .before .before .is-usable .ensures) (c .before .before .if1 .left) in (
-      u .points,
-      u .primary,
-      u .edits,
-    )
-
-mul-if3 : tie.Need-mul-if3
-mul-if3 c =
-    omega
-    (arith, count-room _ _ (c .present .ensures) (counts _ _ (c .before .before .before .before .is-usable .ensures) (c .before .before .before .if1 .left)))
-
-returns-3 : tie.Need-returns-3
-returns-3 c =
-    no-room _ _ _ (c .before .before .before .before .before .is-usable .ensures) _
-    (c .before .before .before .before .if1 .left) _ (c .before .before .before .has-zero-side .ensures)
-    (c .before .before .if2 .left) _ (c .before .present .ensures) (c .if3 .taken)
+present-requires c κs = let u = counts _ _ (c .before .before .before .is-usable .ensures) (c .before .before .if1 .left) in (u .points, u .primary, u .edits)
 
 scaled-points-requires : tie.Need-scaled-points-requires
-scaled-points-requires c κs =
-    count-room _ _ (c .before .before .before .present .ensures)
-    (counts _ _ (c .before .before .before .before .before .before .before .is-usable .ensures) (c .before .before .before .before .before .before .if1 .left))
+scaled-points-requires c κs = count-room _ _ (c .before .before .present .ensures) (counts _ _ (c .before .before .before .before .before .before .is-usable .ensures) (c .before .before .before .before .before .if1 .left))
 
 write-points-requires : tie.Need-write-points-requires
-write-points-requires c κs = (
-  count-room _ _ (c .before .before .before .before .before .present .ensures)
-      (counts _ _ (c .before .before .before .before .before .before .before .before .before .is-usable .ensures) (c .before .before .before .before .before .before .before .before .if1 .left)),
-  c .before .before .before .before .if3 .left,
-)
+write-points-requires c κs = search needs
 
 same-length : tie.Need-same-length
 same-length c = search needs
 
+returns-3 : tie.Need-returns-3
+returns-3 c = too-short _ _ _ (c .before .before .before .before .before .before .before .before .before .before .before .before .is-usable .ensures) _ (c .before .before .before .before .before .before .before .before .before .before .before .if1 .left) _ (c .before .before .before .before .before .before .before .before .before .before .has-zero-side .ensures) (c .before .before .before .before .before .before .before .before .before .if2 .left) _ (c .before .before .before .before .before .before .before .before .present .ensures) _ (c .before .before .before .before .before .scaled-points .ensures) _ _ (c .before .before .before .write-points .ensures) (c .if3 .taken)
+
+same-length-2 : tie.Need-same-length-2
+same-length-2 c = search needs
+
 returns-4 : tie.Need-returns-4
-returns-4 c =
-    all-listed _ _ _
-    (c .before .before .before .before .before .before .before .before .before .before .before .before .is-usable .ensures)
-    _ (c .before .before .before .before .before .before .before .before .before .before .before .if1 .left) _
-    (c .before .before .before .before .before .before .before .before .before .before .has-zero-side .ensures)
-    (c .before .before .before .before .before .before .before .before .before .if2 .left) _
-    (c .before .before .before .before .before .before .before .before .present .ensures)
-    (c .before .before .before .before .before .before .before .if3 .left) _
-    (c .before .before .before .before .scaled-points .ensures) _ (c .before .before .write-points .ensures)
+returns-4 c = all-listed _ _ _ (c .before .before .before .before .before .before .before .before .before .before .before .before .is-usable .ensures) _ (c .before .before .before .before .before .before .before .before .before .before .before .if1 .left) _ (c .before .before .before .before .before .before .before .before .before .before .has-zero-side .ensures) (c .before .before .before .before .before .before .before .before .before .if2 .left) _ (c .before .before .before .before .before .before .before .before .present .ensures) _ (c .before .before .before .before .before .scaled-points .ensures) _ _ (c .before .before .before .write-points .ensures) (c .if3 .left)
 
 pub fit-spec : {M : Type 1} → statement M
 fit-spec =
@@ -132,9 +110,9 @@ fit-spec =
     has-zero-side-requires
     returns-2
     present-requires
-    mul-if3
-    returns-3
     scaled-points-requires
     write-points-requires
     same-length
+    returns-3
+    same-length-2
     returns-4)
