@@ -204,11 +204,12 @@ struct Listing {
 fn listed_points(window: Window, primary: u32, mask: u64) -> Listing
     ensures { λ r. ⌜ r ≡ listingOf (listed window primary mask) ⌝ }
 {
+    let table = crate::points::table();
     let mut points = crate::focus::no_places();
     let mut count: usize = 0;
     let mut i: usize = 0;
     while i < 39 {
-        let point = crate::points::point_at(i);
+        let point = table[i];
         match placed_point(point, window, primary, mask) {
             Placing::Listed(placed) => {
                 points[count] = placed;

@@ -1,7 +1,6 @@
 // The table of a body's autofocus points: where each point that the body names by its number lies on its picture.
 ghost use mathlib.Core.Path.{_≡_};
-ghost use lib.ListN.{getD};
-ghost use Rattle.placing.specs.Points.{hasTable, points, noTablePoint};
+ghost use Rattle.placing.specs.Points.{hasTable, points};
 
 // A point of the table: its number as the camera writes it, the center of its box and the side of the box, which is square,
 // in the body's full-size frame.
@@ -263,18 +262,9 @@ pub fn has_table(model: &[u8]) -> bool
     tiff::io::equals(model, b"NIKON D600")
 }
 
-// The point at place `i` of the table, from 0; past the end everything is zero.
-pub fn point_at(i: usize) -> TablePoint
-    ensures { λ r. ⌜ r ≡ getD points i noTablePoint ⌝ }
+// The whole table.
+pub fn table() -> [TablePoint; 39]
+    ensures { λ r. ⌜ r ≡ points ⌝ }
 {
-    if i < 39 {
-        let p = POINTS[i];
-        return p;
-    }
-    TablePoint {
-        number: 0,
-        x: 0,
-        y: 0,
-        side: 0,
-    }
+    POINTS
 }

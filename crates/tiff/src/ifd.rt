@@ -78,7 +78,7 @@ fn entry_at(block: &[u8], order: ByteOrder, at: usize) -> Found
     requires { ⌜ at + 12 ≤ length (now block) ⌝ }
     ensures { λ r. ⌜ r ≡ entryOf order (now (block .entry)) at ⌝ }
 {
-    let typ = crate::io::u16_of(crate::io::tail(block, at + 2), order);
+    let typ = crate::io::u16_at(block, at + 2, order);
     let count = crate::io::u32_of(crate::io::tail(block, at + 4), order);
     let field = at + 8;
     let len = (count as usize) * (crate::types::type_size(typ) as usize);
@@ -107,10 +107,10 @@ fn has_tag(block: &[u8], order: ByteOrder, at: usize, tag: u16) -> bool
     requires { ⌜ at + 12 ≤ length (now block) ⌝ }
     ensures { λ r. ⌜ r ≡ hasTag order (now (block .entry)) tag at ⌝ }
 {
-    if crate::io::u16_of(crate::io::tail(block, at), order) != tag {
+    if crate::io::u16_at(block, at, order) != tag {
         return false;
     }
-    0 < crate::types::type_size(crate::io::u16_of(crate::io::tail(block, at + 2), order))
+    0 < crate::types::type_size(crate::io::u16_at(block, at + 2, order))
 }
 
 // The first kept entry with the tag, of `count` entries from `first`.

@@ -37,6 +37,10 @@ part : (b : Bool) (q : FocusPoint) (qs : List FocusPoint) → cond b (q ∷ qs) 
 part true q qs = refl
 part false q qs = refl
 
+-- the row at place i of the table that the code holds
+same-row : (rows : List TablePoint) (i : ℕ) → rows ≡ table → getD rows i noTablePoint ≡ getD table i noTablePoint
+same-row rows i e = rw e
+
 start : (w : Window) (primary mask : ℕ) (ps : List FocusPoint) → ps ≡ replicate 39 noPoint → Going w primary mask ps 0 0
 start w primary mask ps e = rw e (record { long = refl; room = omega arith; goes = refl; blanks = refl })
 
@@ -68,24 +72,32 @@ end w primary mask ps n i e k =
     rw (f .1, ← f .0)
 
 abbrev Inv-loop : tie.InvT-loop
-Inv-loop window primary mask points₀ count₀ i₀ points count i = ((i ≤ 39) × (count ≤ i)) × Going window primary mask points count i
+Inv-loop window primary mask rows points₀ count₀ i₀ points count i = ((i ≤ 39) × (count ≤ i)) × Going window primary mask points count i
 
 abbrev μ-loop : tie.MeasureT-loop
-μ-loop window primary mask points₀ count₀ i₀ points count i = 39 - i
+μ-loop window primary mask rows points₀ count₀ i₀ points count i = 39 - i
+
+table-requires : tie.Need-table-requires Inv-loop μ-loop
+table-requires c κs = search needs
 
 no-places-requires : tie.Need-no-places-requires Inv-loop μ-loop
 no-places-requires c κs = search needs
 
 loop-holds : tie.Need-loop-holds Inv-loop μ-loop
 loop-holds c =
-    let a = (c .before .args) in
+    let a = (c .before .before .args) in
     ((omega arith, omega arith), start (a .window) (a .primary) (a .mask) _ (c .no-places .ensures))
 
-point-at-requires : tie.Need-point-at-requires Inv-loop μ-loop
-point-at-requires c κs = search needs
+mul-point : tie.Need-mul-point Inv-loop μ-loop
+mul-point c = search needs
+
+array-copy-out-point : tie.Need-array-copy-out-point Inv-loop μ-loop
+array-copy-out-point c = search needs
 
 placed-point-requires : tie.Need-placed-point-requires Inv-loop μ-loop
-placed-point-requires c κs = number-at _ (c .before .before .loop .i) (c .before .loop-test .taken) (c .point-at .ensures)
+placed-point-requires c κs =
+    let l = (c .before .before .loop) in
+    number-at _ (l .i) (omega arith) (same-row _ (l .i) (c .before .before .before .before .table .ensures))
 
 enum-known-placed : tie.Need-enum-known-placed Inv-loop μ-loop
 enum-known-placed c = search needs
@@ -110,10 +122,10 @@ loop-less c = omega arith
 
 loop-again : tie.Need-loop-again Inv-loop μ-loop
 loop-again c =
-    let a = (c .before .before .before .before .before .before .args) in
+    let a = (c .before .before .before .before .before .before .before .args) in
     let l = (c .before .before .before .before .loop) in
-    let t = (c .before .before .before .loop-test .taken) in
-    let ep = (c .before .before .point-at .ensures) in
+    let t : l .i < 39 = omega arith in
+    let ep = same-row _ (l .i) (c .before .before .before .before .before .before .table .ensures) in
     let er = (c .before .placed-point .ensures) in
     ⊎-elim
     (λ w. (
@@ -130,7 +142,7 @@ loop-again c =
 
 returns : tie.Need-returns Inv-loop μ-loop
 returns c =
-    let a = (c .before .before .before .args) in
+    let a = (c .before .before .before .before .args) in
     end (a .window) (a .primary) (a .mask) _ _ (c .before .loop .i) (omega arith) (c .before .loop .inv .1)
 
 pub listed-points-spec : {M : Type 1} → statement M
@@ -139,9 +151,11 @@ listed-points-spec =
     (tie.spec
     Inv-loop
     μ-loop
+    table-requires
     no-places-requires
     loop-holds
-    point-at-requires
+    mul-point
+    array-copy-out-point
     placed-point-requires
     enum-known-placed
     mul-points

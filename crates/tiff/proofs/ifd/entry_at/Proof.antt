@@ -4,10 +4,9 @@ use mathlib.Core.List.{List}
 use Prim.Native.Nat.{ℕ, _+_, _*_, _≤_, _<_}
 use native.Mathlib.Omega.{arith}
 use borrow.Author.Tests.{le-leb, lt-leb}
-use lib.ListN.{length, drop}
+use lib.ListN.{length}
 use denote.Ref.{now}
 use Rattle.tiff.proofs.Entries.{product-small}
-use Rattle.tiff.specs.Numbers.{u16Of, u32Of}
 use Rattle.tiff.specs.Block.{entryOf, sizeOf, typeAt, countAt, offsetAt}
 use Rattle.tiff.specs.declared.io.ByteOrder.{ByteOrder}
 use Rattle.tiff.specs.declared.ifd.Found.the-variants.{Present, Damaged}
@@ -29,20 +28,17 @@ module _ (o : ByteOrder) (s : List ℕ) (at t n z : ℕ) (et : t ≡ typeAt o s 
     unfolding entryOf
     damaged k = rw (← et, ← en, ← ez, lt-leb _ _ h, ← ep, lt-leb _ _ k)
 
+add-u16-at : tie.Need-add-u16-at
+add-u16-at c = search needs
+
+u16-at-requires : tie.Need-u16-at-requires
+u16-at-requires c κs = search needs
+
 add-tail : tie.Need-add-tail
 add-tail c = search needs
 
 tail-requires : tie.Need-tail-requires
 tail-requires c κs = search needs
-
-u16-of-requires : tie.Need-u16-of-requires
-u16-of-requires c κs = search needs
-
-add-tail-2 : tie.Need-add-tail-2
-add-tail-2 c = search needs
-
-tail-requires-2 : tie.Need-tail-requires-2
-tail-requires-2 c κs = search needs
 
 u32-of-requires : tie.Need-u32-of-requires
 u32-of-requires c κs = search needs
@@ -63,10 +59,14 @@ mul-len : tie.Need-mul-len
 mul-len c = omega (arith, product-small (c .before .u32-of .result) (c .type-size .result) (omega arith) (omega arith))
 
 returns : tie.Need-returns
-returns c = inline (c .before .before .before .before .before .before .before .args .order) (now (c .before .before .before .before .before .before .before .args .block)) (c .before .before .before .before .before .before .before .args .at) _ _ _ (rw (c .before .before .before .before .before .tail .ensures) at (c .before .before .before .before .u16-of .ensures)) (rw (c .before .before .before .tail2 .ensures) at (c .before .before .u32-of .ensures)) (c .before .type-size .ensures) (c .if1 .taken)
+returns c =
+    let b = (c .before .before .before) in
+    let a = (b .before .before .before .args) in
+    let n = rw (b .tail .ensures) at (c .before .before .u32-of .ensures) in
+    inline (a .order) (now (a .block)) (a .at) _ _ _ (b .before .u16-at .ensures) n (c .before .type-size .ensures) (c .if1 .taken)
 
-tail-requires-3 : tie.Need-tail-requires-3
-tail-requires-3 c κs = search needs
+tail-requires-2 : tie.Need-tail-requires-2
+tail-requires-2 c κs = search needs
 
 u32-of-requires-2 : tie.Need-u32-of-requires-2
 u32-of-requires-2 c κs = search needs
@@ -75,23 +75,36 @@ cast-offset : tie.Need-cast-offset
 cast-offset c = search needs
 
 add-if2 : tie.Need-add-if2
-add-if2 c = omega (arith, product-small (c .before .before .before .before .u32-of .result) (c .before .before .before .type-size .result) (omega arith) (omega arith))
+add-if2 c =
+    omega
+    (arith, product-small (c .before .before .before .before .u32-of .result) (c .before .before .before .type-size .result) (omega arith) (omega arith))
 
 returns-2 : tie.Need-returns-2
-returns-2 c = far (c .before .before .before .before .before .before .before .before .before .before .args .order) (now (c .before .before .before .before .before .before .before .before .before .before .args .block)) (c .before .before .before .before .before .before .before .before .before .before .args .at) _ _ _ (rw (c .before .before .before .before .before .before .before .before .tail .ensures) at (c .before .before .before .before .before .before .before .u16-of .ensures)) (rw (c .before .before .before .before .before .before .tail2 .ensures) at (c .before .before .before .before .before .u32-of .ensures)) (c .before .before .before .before .type-size .ensures) (c .before .before .before .if1 .left) _ (rw (c .before .before .tail3 .ensures) at (c .before .u32-of2 .ensures)) (c .if2 .taken)
+returns-2 c =
+    let b = (c .before .before .before .before) in
+    let a = (b .before .before .before .before .before .args) in
+    let n = rw (b .before .before .tail .ensures) at (b .before .u32-of .ensures) in
+    let p = rw (c .before .before .tail2 .ensures) at (c .before .u32-of2 .ensures) in
+    far (a .order) (now (a .block)) (a .at) _ _ _ (b .before .before .before .u16-at .ensures) n (b .type-size .ensures)
+    (c .before .before .before .if1 .left) _ p (c .if2 .taken)
 
 returns-3 : tie.Need-returns-3
-returns-3 c = damaged (c .before .before .before .before .before .before .before .before .before .before .args .order) (now (c .before .before .before .before .before .before .before .before .before .before .args .block)) (c .before .before .before .before .before .before .before .before .before .before .args .at) _ _ _ (rw (c .before .before .before .before .before .before .before .before .tail .ensures) at (c .before .before .before .before .before .before .before .u16-of .ensures)) (rw (c .before .before .before .before .before .before .tail2 .ensures) at (c .before .before .before .before .before .u32-of .ensures)) (c .before .before .before .before .type-size .ensures) (c .before .before .before .if1 .left) _ (rw (c .before .before .tail3 .ensures) at (c .before .u32-of2 .ensures)) (c .if2 .left)
+returns-3 c =
+    let b = (c .before .before .before .before) in
+    let a = (b .before .before .before .before .before .args) in
+    let n = rw (b .before .before .tail .ensures) at (b .before .u32-of .ensures) in
+    let p = rw (c .before .before .tail2 .ensures) at (c .before .u32-of2 .ensures) in
+    damaged (a .order) (now (a .block)) (a .at) _ _ _ (b .before .before .before .u16-at .ensures) n (b .type-size .ensures)
+    (c .before .before .before .if1 .left) _ p (c .if2 .left)
 
 pub entry-at-spec : {M : Type 1} → statement M
 entry-at-spec =
     tie.close
     (tie.spec
+    add-u16-at
+    u16-at-requires
     add-tail
     tail-requires
-    u16-of-requires
-    add-tail-2
-    tail-requires-2
     u32-of-requires
     add-field
     cast-len
@@ -99,7 +112,7 @@ entry-at-spec =
     cast-len-2
     mul-len
     returns
-    tail-requires-3
+    tail-requires-2
     u32-of-requires-2
     cast-offset
     add-if2

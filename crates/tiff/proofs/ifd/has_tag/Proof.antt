@@ -1,7 +1,7 @@
 -- `ifd::has_tag`: the tag, then the size of the type. Assumes nothing.
-use mathlib.Core.Path.{_≡_, _∙_, sym, ap}
+use mathlib.Core.Path.{_≡_}
 use mathlib.Core.List.{List}
-use mathlib.Core.Bool.{Bool, true, false}
+use mathlib.Core.Bool.{false}
 use Prim.Native.Nat.{ℕ, _+_}
 use borrow.Author.Tests.{eq-eqb, ne-eqb}
 use lib.ListN.{drop}
@@ -23,39 +23,36 @@ module _ (o : ByteOrder) (s : List ℕ) (tag at g : ℕ) (eg : g ≡ u16Of o (dr
   unfolding hasTag
   right t z et ez e = rw (← eg, eq-eqb g tag e, ← et, ← ez)
 
-tail-requires : tie.Need-tail-requires
-tail-requires c κs = search needs
-
-u16-of-requires : tie.Need-u16-of-requires
-u16-of-requires c κs = search needs
+u16-at-requires : tie.Need-u16-at-requires
+u16-at-requires c κs = search needs
 
 returns : tie.Need-returns
-returns c = other (c .before .before .before .before .args .order) (now (c .before .before .before .before .args .block)) (c .before .before .before .before .args .tag) (c .before .before .before .before .args .at) _ (rw (c .before .before .tail .ensures) at (c .before .u16-of .ensures)) (c .if1 .taken)
+returns c =
+    let a = (c .before .before .before .args) in
+    other (a .order) (now (a .block)) (a .tag) (a .at) _ (c .before .u16-at .ensures) (c .if1 .taken)
 
-add-tail : tie.Need-add-tail
-add-tail c = search needs
+add-u16-at : tie.Need-add-u16-at
+add-u16-at c = search needs
 
-tail-requires-2 : tie.Need-tail-requires-2
-tail-requires-2 c κs = search needs
-
-u16-of-requires-2 : tie.Need-u16-of-requires-2
-u16-of-requires-2 c κs = search needs
+u16-at-requires-2 : tie.Need-u16-at-requires-2
+u16-at-requires-2 c κs = search needs
 
 type-size-requires : tie.Need-type-size-requires
 type-size-requires c κs = search needs
 
 returns-2 : tie.Need-returns-2
-returns-2 c = right (c .before .before .before .before .before .before .before .args .order) (now (c .before .before .before .before .before .before .before .args .block)) (c .before .before .before .before .before .before .before .args .tag) (c .before .before .before .before .before .before .before .args .at) _ (rw (c .before .before .before .before .before .tail .ensures) at (c .before .before .before .before .u16-of .ensures)) _ _ (rw (c .before .before .tail2 .ensures) at (c .before .u16-of2 .ensures)) (c .type-size .ensures) (c .before .before .before .if1 .left)
+returns-2 c =
+    let a = (c .before .before .before .before .before .args) in
+    let g = (c .before .before .before .u16-at .ensures) in
+    right (a .order) (now (a .block)) (a .tag) (a .at) _ g _ _ (c .before .u16-at2 .ensures) (c .type-size .ensures) (c .before .before .if1 .left)
 
 pub has-tag-spec : {M : Type 1} → statement M
 has-tag-spec =
     tie.close
     (tie.spec
-    tail-requires
-    u16-of-requires
+    u16-at-requires
     returns
-    add-tail
-    tail-requires-2
-    u16-of-requires-2
+    add-u16-at
+    u16-at-requires-2
     type-size-requires
     returns-2)
