@@ -190,27 +190,28 @@ impl Sheet {
         next
     }
 
+    // The sheet as it is, after a call that ends so.
+    fn ends(self, answer: EditAnswer) -> Edited
+        ensures { λ r. ⌜ r ≡ edited answer self ⌝ }
+    {
+        Edited {
+            answer,
+            sheet: self,
+        }
+    }
+
     // One more edit, where the sheet is not empty and has room for it.
     fn add(self, edit: Edit) -> Edited
         ensures { λ r. ⌜ r ≡ ifOpen self (edited EditAnswer.Accepted (addEdit self edit)) ⌝ }
     {
         if !self.is_usable() {
-            return Edited {
-                answer: EditAnswer::Empty,
-                sheet: self,
-            };
+            return self.ends(EditAnswer::Empty);
         }
         if MOST_EDITS <= self.standing {
-            return Edited {
-                answer: EditAnswer::Full,
-                sheet: self,
-            };
+            return self.ends(EditAnswer::Full);
         }
         let sheet = self.with_edit(edit);
-        Edited {
-            answer: EditAnswer::Accepted,
-            sheet,
-        }
+        sheet.ends(EditAnswer::Accepted)
     }
 
     // The sheet turned clockwise, by a quarter rotation.
@@ -232,25 +233,16 @@ impl Sheet {
         ensures { λ r. ⌜ r ≡ cutSheet self left top width height ⌝ }
     {
         if !self.is_usable() {
-            return Edited {
-                answer: EditAnswer::Empty,
-                sheet: self,
-            };
+            return self.ends(EditAnswer::Empty);
         }
         if MOST_EDITS <= self.standing {
-            return Edited {
-                answer: EditAnswer::Full,
-                sheet: self,
-            };
+            return self.ends(EditAnswer::Full);
         }
         let primary = self.primary;
         let place = self.place_at(primary);
         let frame = place.frame;
         if !edit::cut_passes(left, top, width, height, frame) {
-            return Edited {
-                answer: EditAnswer::BadCut,
-                sheet: self,
-            };
+            return self.ends(EditAnswer::BadCut);
         }
         let edit = Edit::Cut {
             left,
@@ -260,16 +252,10 @@ impl Sheet {
         };
         let after = edit::move_by(edit, place);
         if !after.listed {
-            return Edited {
-                answer: EditAnswer::DropsPrimary,
-                sheet: self,
-            };
+            return self.ends(EditAnswer::DropsPrimary);
         }
         let sheet = self.with_edit(edit);
-        Edited {
-            answer: EditAnswer::Accepted,
-            sheet,
-        }
+        sheet.ends(EditAnswer::Accepted)
     }
 
     // The sheet without its last edit. The words of that edit stay behind the standing ones and are read no more.
@@ -277,23 +263,14 @@ impl Sheet {
         ensures { λ r. ⌜ r ≡ backSheet self ⌝ }
     {
         if !self.is_usable() {
-            return Edited {
-                answer: EditAnswer::Empty,
-                sheet: self,
-            };
+            return self.ends(EditAnswer::Empty);
         }
         let n = self.standing;
         if n == 0 {
-            return Edited {
-                answer: EditAnswer::NothingStands,
-                sheet: self,
-            };
+            return self.ends(EditAnswer::NothingStands);
         }
         let mut sheet = self;
         sheet.standing = n - 1;
-        Edited {
-            answer: EditAnswer::Accepted,
-            sheet,
-        }
+        sheet.ends(EditAnswer::Accepted)
     }
 }

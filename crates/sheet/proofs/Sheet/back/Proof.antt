@@ -1,11 +1,12 @@
 -- `Sheet::back`: the tests of backSheet, in the code's order. Assumes nothing.
-use mathlib.Core.Path.{_≡_}
+use mathlib.Core.Path.{_≡_, _∙_}
 use mathlib.Core.Bool.{Bool, true, false, not}
 use Prim.Native.Nat.{_-_}
 use borrow.Author.Tests.{eq-eqb, ne-eqb, not-true, not-false}
 use Rattle.sheet.specs.declared.EditAnswer.the-variants.{Accepted, Empty, NothingStands}
 use Rattle.sheet.specs.declared.Sheet.{Sheet}
 use Rattle.sheet.specs.Sheet.{edited, withEdits, usable, backSheet}
+use borrow.Author.Needs.{needs}
 use borrow.Author.Needs.{needs}
 use Rattle.sheet.proofs.Sheet.back.Statement.{statement}
 use Rattle.sheet.proofs.Sheet.back.Tie as tie
@@ -27,17 +28,36 @@ module _ (s : Sheet) (r : Bool) (e : r ≡ usable s) where
 is-usable-requires : tie.Need-is-usable-requires
 is-usable-requires c κs = search needs
 
+ends-requires : tie.Need-ends-requires
+ends-requires c κs = search needs
+
 returns : tie.Need-returns
-returns c = empty _ _ (c .before .is-usable .ensures) (c .if1 .taken)
+returns c = (c .ends .ensures) ∙ empty _ _ (c .before .before .is-usable .ensures) (c .before .if1 .taken)
+
+ends-requires-2 : tie.Need-ends-requires-2
+ends-requires-2 c κs = search needs
 
 returns-2 : tie.Need-returns-2
-returns-2 c = none-stands _ _ (c .before .before .is-usable .ensures) (c .before .if1 .left) (c .if2 .taken)
+returns-2 c = (c .ends2 .ensures) ∙ none-stands _ _ (c .before .before .before .is-usable .ensures) (c .before .before .if1 .left) (c .before .if2 .taken)
 
 sub-sheet : tie.Need-sub-sheet
 sub-sheet c = search needs
 
+ends-requires-3 : tie.Need-ends-requires-3
+ends-requires-3 c κs = search needs
+
 returns-3 : tie.Need-returns-3
-returns-3 c = one-less _ _ (c .before .before .is-usable .ensures) (c .before .if1 .left) (c .if2 .left)
+returns-3 c = (c .ends3 .ensures) ∙ one-less _ _ (c .before .before .before .is-usable .ensures) (c .before .before .if1 .left) (c .before .if2 .left)
 
 pub back-spec : {M : Type 1} → statement M
-back-spec = tie.close (tie.spec is-usable-requires returns returns-2 sub-sheet returns-3)
+back-spec =
+    tie.close
+    (tie.spec
+    is-usable-requires
+    ends-requires
+    returns
+    ends-requires-2
+    returns-2
+    sub-sheet
+    ends-requires-3
+    returns-3)

@@ -14,6 +14,7 @@ use Rattle.sheet.specs.Place.{moved}
 use Rattle.sheet.specs.Sheet.{edited, usable, placedAt, presentFrame, addEdit, cutPasses, keepsPrimary, cutSheet}
 use Rattle.sheet.proofs.Usable.{counts, when-empty, when-full, when-open}
 use borrow.Author.Needs.{needs}
+use borrow.Author.Needs.{needs}
 use Rattle.sheet.proofs.Sheet.cut.Statement.{statement}
 use Rattle.sheet.proofs.Sheet.cut.Tie as tie
 
@@ -45,67 +46,66 @@ module _ (s : Sheet) (l t w h : ℕ) (r : Bool) (e : r ≡ usable s) (n : not r 
 is-usable-requires : tie.Need-is-usable-requires
 is-usable-requires c κs = search needs
 
+ends-requires : tie.Need-ends-requires
+ends-requires c κs = search needs
+
 returns : tie.Need-returns
 unfolding cutSheet
-returns c = when-empty _ _ (c .before .is-usable .ensures) _ (c .if1 .taken)
+returns c = (c .ends .ensures) ∙ when-empty _ _ (c .before .before .is-usable .ensures) _ (c .before .if1 .taken)
+
+ends-requires-2 : tie.Need-ends-requires-2
+ends-requires-2 c κs = search needs
 
 returns-2 : tie.Need-returns-2
 unfolding cutSheet
-returns-2 c = when-full _ _ (c .before .before .before .is-usable .ensures) _ (c .before .before .if1 .left) (c .if2 .taken)
+returns-2 c = (c .ends2 .ensures) ∙ when-full _ _ (c .before .before .before .before .is-usable .ensures) _ (c .before .before .before .if1 .left) (c .before .if2 .taken)
 
 place-at-requires : tie.Need-place-at-requires
-place-at-requires c κs =
-    let u = counts _ _ (c .before .before .before .is-usable .ensures) (c .before .before .if1 .left) in
-    omega arith
+place-at-requires c κs = let u = counts _ _ (c .before .before .before .is-usable .ensures) (c .before .before .if1 .left) in omega arith
 
 cut-passes-requires : tie.Need-cut-passes-requires
 cut-passes-requires c κs = search needs
 
+ends-requires-3 : tie.Need-ends-requires-3
+ends-requires-3 c κs = search needs
+
 returns-3 : tie.Need-returns-3
-returns-3 c =
-    passes-frame _ _ _ _ _ _ (c .before .before .before .before .before .before .before .is-usable .ensures)
-    (c .before .before .before .before .before .before .if1 .left) (c .before .before .before .before .if2 .left) _
-    (frame-of _ _ (c .before .before .before .place-at .ensures)) _ (c .before .cut-passes .ensures) (c .if3 .taken)
+returns-3 c = (c .ends3 .ensures) ∙ passes-frame _ _ _ _ _ _ (c .before .before .before .before .before .before .before .before .is-usable .ensures) (c .before .before .before .before .before .before .before .if1 .left) (c .before .before .before .before .before .if2 .left) _ (frame-of _ _ (c .before .before .before .before .place-at .ensures)) _ (c .before .before .cut-passes .ensures) (c .before .if3 .taken)
 
 move-by-requires : tie.Need-move-by-requires
 move-by-requires c κs = search needs
 
+ends-requires-4 : tie.Need-ends-requires-4
+ends-requires-4 c κs = search needs
+
 returns-4 : tie.Need-returns-4
-returns-4 c =
-    drops _ _ _ _ _ _
-    (c .before .before .before .before .before .before .before .before .before .before .is-usable .ensures)
-    (c .before .before .before .before .before .before .before .before .before .if1 .left)
-    (c .before .before .before .before .before .before .before .if2 .left) _
-    (frame-of _ _ (c .before .before .before .before .before .before .place-at .ensures)) _
-    (c .before .before .before .before .cut-passes .ensures) (c .before .before .before .if3 .left) _
-    (listed-by _ _ (c .before .before .before .before .before .before .place-at .ensures) _ _ (c .before .before .move-by .ensures))
-    (c .if4 .taken)
+returns-4 c = (c .ends4 .ensures) ∙ drops _ _ _ _ _ _ (c .before .before .before .before .before .before .before .before .before .before .before .is-usable .ensures) (c .before .before .before .before .before .before .before .before .before .before .if1 .left) (c .before .before .before .before .before .before .before .before .if2 .left) _ (frame-of _ _ (c .before .before .before .before .before .before .before .place-at .ensures)) _ (c .before .before .before .before .before .cut-passes .ensures) (c .before .before .before .before .if3 .left) _ (listed-by _ _ (c .before .before .before .before .before .before .before .place-at .ensures) _ _ (c .before .before .before .move-by .ensures)) (c .before .if4 .taken)
 
 with-edit-requires : tie.Need-with-edit-requires
 with-edit-requires c κs = search needs
 
+ends-requires-5 : tie.Need-ends-requires-5
+ends-requires-5 c κs = search needs
+
 returns-5 : tie.Need-returns-5
-returns-5 c =
-    done _ _ _ _ _ _
-    (c .before .before .before .before .before .before .before .before .before .before .before .is-usable .ensures)
-    (c .before .before .before .before .before .before .before .before .before .before .if1 .left)
-    (c .before .before .before .before .before .before .before .before .if2 .left) _
-    (frame-of _ _ (c .before .before .before .before .before .before .before .place-at .ensures)) _
-    (c .before .before .before .before .before .cut-passes .ensures) (c .before .before .before .before .if3 .left) _
-    (listed-by _ _ (c .before .before .before .before .before .before .before .place-at .ensures) _ _ (c .before .before .before .move-by .ensures))
-    (c .before .if4 .left) _ (c .with-edit .ensures)
+returns-5 c = (c .ends5 .ensures) ∙ done _ _ _ _ _ _ (c .before .before .before .before .before .before .before .before .before .before .before .before .is-usable .ensures) (c .before .before .before .before .before .before .before .before .before .before .before .if1 .left) (c .before .before .before .before .before .before .before .before .before .if2 .left) _ (frame-of _ _ (c .before .before .before .before .before .before .before .before .place-at .ensures)) _ (c .before .before .before .before .before .before .cut-passes .ensures) (c .before .before .before .before .before .if3 .left) _ (listed-by _ _ (c .before .before .before .before .before .before .before .before .place-at .ensures) _ _ (c .before .before .before .before .move-by .ensures)) (c .before .before .if4 .left) _ (c .before .with-edit .ensures)
 
 pub cut-spec : {M : Type 1} → statement M
 cut-spec =
     tie.close
     (tie.spec
     is-usable-requires
+    ends-requires
     returns
+    ends-requires-2
     returns-2
     place-at-requires
     cut-passes-requires
+    ends-requires-3
     returns-3
     move-by-requires
+    ends-requires-4
     returns-4
     with-edit-requires
+    ends-requires-5
     returns-5)
