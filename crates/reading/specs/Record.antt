@@ -71,6 +71,10 @@ areaModeOf d c =
     (cond ((eqb c 9 && eqb d 0) || (eqb c 207 && (eqb d 1 || eqb d 2))) Tracking
     Unnamed)))
 
+-- a mode that is named with 0 alone in byte 4
+abbrev pub ifZero : ℕ → FocusAreaMode → FocusAreaMode
+ifZero d mode = cond (eqb d 0) mode Unnamed
+
 -- "In-focus 0 is no, 1 yes, others unrecorded"
 unfoldable pub byByte : ℕ → InFocus
 byByte b = cond (eqb b 0) No (cond (eqb b 1) Yes Unrecorded)

@@ -14,7 +14,7 @@ ghost use Rattle.tiff.specs.Outcome.{numberOf};
 ghost use Rattle.tiff.specs.Numbers.{shortsOf};
 ghost use Rattle.tiff.specs.Block.{blockOf};
 ghost use Rattle.reading.specs.Values.{upToZero, trimStart, trimEnd, isManual, manualFocusOf, numberAt, cropHiSpeedOf, isRectangle, insideRaw, cropAreaOf};
-ghost use Rattle.reading.specs.Record.{versions, noVersion, layouts, noLayout, layoutOf, areaModeOf, inFocusOf, maskOf, namedOf, sizeAt, recordIn, recordMeans, recordOf, afInfo2Of};
+ghost use Rattle.reading.specs.Record.{versions, noVersion, layouts, noLayout, layoutOf, ifZero, areaModeOf, inFocusOf, maskOf, namedOf, sizeAt, recordIn, recordMeans, recordOf, afInfo2Of};
 ghost use Rattle.reading.specs.Contents.{contentsNumber, keptTags, listed, contentsOf, ContentsOf};
 
 // FocusMode: text.
@@ -353,6 +353,16 @@ fn layout_of(value: &[u8]) -> KnownLayout
     KnownLayout::Unknown
 }
 
+// A mode that only the detection method 0 has.
+fn if_zero(detection: u8, mode: FocusAreaMode) -> FocusAreaMode
+    ensures { λ r. ⌜ r ≡ ifZero detection mode ⌝ }
+{
+    if detection == 0 {
+        return mode;
+    }
+    FocusAreaMode::Unnamed
+}
+
 // The area mode that bytes 4 and 5 of a record name.
 pub fn area_mode(detection: u8, code: u8) -> FocusAreaMode
     ensures { λ r. ⌜ r ≡ areaModeOf detection code ⌝ }
@@ -360,30 +370,10 @@ pub fn area_mode(detection: u8, code: u8) -> FocusAreaMode
     match code {
         193 => FocusAreaMode::Single,
         197 => FocusAreaMode::Auto,
-        0 => {
-            if detection == 0 {
-                return FocusAreaMode::Single;
-            }
-            FocusAreaMode::Unnamed
-        }
-        5 => {
-            if detection == 0 {
-                return FocusAreaMode::Dynamic;
-            }
-            FocusAreaMode::Unnamed
-        }
-        8 => {
-            if detection == 0 {
-                return FocusAreaMode::Auto;
-            }
-            FocusAreaMode::Unnamed
-        }
-        9 => {
-            if detection == 0 {
-                return FocusAreaMode::Tracking;
-            }
-            FocusAreaMode::Unnamed
-        }
+        0 => if_zero(detection, FocusAreaMode::Single),
+        5 => if_zero(detection, FocusAreaMode::Dynamic),
+        8 => if_zero(detection, FocusAreaMode::Auto),
+        9 => if_zero(detection, FocusAreaMode::Tracking),
         207 => {
             if detection == 1 {
                 return FocusAreaMode::Tracking;
