@@ -1,7 +1,7 @@
 -- What is read was encoded so. The idea: a line's bytes are the parts at the format's places, one after another, and a check; four
 -- bytes are the bytes of the number that they say, and a byte is the check where the sum is 0. Assumes nothing.
 use Prim.Native.Nat.{ℕ, zero, suc, _+_, _*_, _-_, _/_, _%_, _<_, _≤_}
-use mathlib.Core.Bool.{Bool, true, false, _&&_, cond, false≢true}
+use mathlib.Core.Bool.{Bool, true, false, cond}
 use mathlib.Core.List.{List, [], _∷_, _++_}
 use mathlib.Core.Logic.{_⊎_, inl, inr}
 use mathlib.Core.Path.{_≡_, refl, sym, ap, _∙_}
@@ -14,11 +14,12 @@ use borrow.Author.Tests.{leb-true, eqb-true}
 use Rattle.tiff.specs.Numbers.{u16Of, u32Of}
 use Rattle.tiff.specs.declared.io.ByteOrder.the-variants.{Big}
 use Rattle.reading.specs.declared.geometry.Size.{Size}
+use Rattle.text.proofs.Lists.{by-cond, and-both}
 use Rattle.hex.specs.Hex.{sum, checks}
 use Rattle.calls.specs.declared.Call.{Call}
-use Rattle.calls.specs.declared.Call.the-variants.{Malformed, Load, Cut, Turn, Mirror, Back, ListPoints, Fit, Contents}
+use Rattle.calls.specs.declared.Call.the-variants.{Malformed, Load, Turn, Mirror, Back, ListPoints}
 use Rattle.calls.specs.Format.{ofLength, numberAt, sizeAt, sidesAgree, optional, hasRaw, hasPicture, flags, modelLength, isLoad, loadOf, cutOf, fitOf, contentsOf, byCode, callOf, modelPart, blockPart, contentsPart}
-use Rattle.calls.specs.Laws.{fourBytes, sizeBytes, isGiven, flagByte, sidesOf, body, checkOf, checked, Number, SizeNumbers, Bytes, Encodes, ReadIsEncoded}
+use Rattle.calls.specs.Laws.{fourBytes, sizeBytes, isGiven, flagByte, sidesOf, body, checkOf, checked, Number, SizeNumbers, Encodable, modelGiven, blockGiven, Bytes, Encodes, ReadIsEncoded}
 use Rattle.calls.proofs.Encoded.{sum-snoc}
 
 -- ---- a number
@@ -109,10 +110,6 @@ module _ (b : List ℕ) (h : Bytes b) where
   size-numbers at = (number-of (drop at b) (bytes-from b h at), number-of (drop (at + 4) b) (bytes-from b h (at + 4)))
 
 -- ---- a load's flags and sizes
-and-both : (a b : Bool) → (a && b) ≡ true → (a ≡ true) × (b ≡ true)
-and-both true b h = (refl, h)
-and-both false b h = absurd (false≢true h)
-
 no-sides : (w h : ℕ) → w ≡ 0 → h ≡ 0 → _≡_ {A = Size} record { width = 0; height = 0 } record { width = w; height = h }
 no-sides w h e f = rw (e, f)
 
@@ -139,33 +136,19 @@ flags-are (suc (suc (suc (suc f)))) h = absurd (omega arith)
 abbrev Told : List ℕ → Call → Type 0
 Told b x = (x ≡ Malformed) ⊎ Encodes b x
 
-by-test : (b : List ℕ) (t : Bool) (x y : Call) → (t ≡ true → Told b x) → (t ≡ false → Told b y) → Told b (cond t x y)
-by-test b true x y f g = f refl
-by-test b false x y f g = g refl
+-- where a test decides between a call and Malformed
+if-so : (b : List ℕ) (t : Bool) {x : Call} → (t ≡ true → Encodes b x) → Told b (cond t x Malformed)
+if-so b t f = by-cond (Told b) t (λ e. inr (f e)) (λ e. inl refl)
 
 module _ (b : List ℕ) (h : Bytes b) (right : checks b ≡ true) where
-  two-bytes : (k : ℕ) → k ≡ getD b 0 0 → length b ≡ 2 → checked (k ∷ []) ≡ b
-  two-bytes k c l = whole b h (omega arith) right (k ∷ []) (rw l (one-at b 0 k (omega arith) c))
-
-  -- a call of two bytes
-  plain : (x : Call) → (length b ≡ 2 → Encodes b x) → Told b (ofLength 2 b x)
-  plain x f = by-test b (eqb (length b) 2) x Malformed (λ e. inr (f (eqb-true (length b) 2 e))) (λ e. inl refl)
-
-  turn : 3 ≡ getD b 0 0 → Told b (ofLength 2 b Turn)
-  unfolding body
-  turn c = plain Turn (λ l. record { can-be = (refl, refl); so = two-bytes 3 c l })
-
-  mirror : 4 ≡ getD b 0 0 → Told b (ofLength 2 b Mirror)
-  unfolding body
-  mirror c = plain Mirror (λ l. record { can-be = (refl, refl); so = two-bytes 4 c l })
-
-  back : 5 ≡ getD b 0 0 → Told b (ofLength 2 b Back)
-  unfolding body
-  back c = plain Back (λ l. record { can-be = (refl, refl); so = two-bytes 5 c l })
-
-  list : 6 ≡ getD b 0 0 → Told b (ofLength 2 b ListPoints)
-  unfolding body
-  list c = plain ListPoints (λ l. record { can-be = (refl, refl); so = two-bytes 6 c l })
+  -- turn, mirror, back and list: a call that is its code alone
+  plain : (x : Call) (k : ℕ) → Encodable x (modelGiven x b) (blockGiven x b) → body x (modelGiven x b) (blockGiven x b) ≡ k ∷ [] → k ≡ getD b 0 0
+      → Told b (ofLength 2 b x)
+  plain x k can e c =
+      if-so b (eqb (length b) 2)
+      (λ t.
+      let l = eqb-true (length b) 2 t in
+      record { can-be = can; so = rw e (whole b h (omega arith) right (k ∷ []) (rw l (one-at b 0 k (omega arith) c))) })
 
   -- a cut
   cut-body : (k : ℕ) → k ≡ getD b 0 0 → length b ≡ 18
@@ -181,11 +164,10 @@ module _ (b : List ℕ) (h : Bytes b) (right : checks b ≡ true) where
   cut : 2 ≡ getD b 0 0 → Told b (cutOf b)
   unfolding cutOf body
   cut c =
-      by-test b (eqb (length b) 18) (Cut (numberAt b 1) (numberAt b 5) (numberAt b 9) (numberAt b 13)) Malformed
+      if-so b (eqb (length b) 18)
       (λ e.
       let l = eqb-true (length b) 18 e in
-      inr
-      (record {
+      record {
         can-be = (
           number-of (drop 1 b) (bytes-from b h 1),
           number-of (drop 5 b) (bytes-from b h 5),
@@ -194,8 +176,7 @@ module _ (b : List ℕ) (h : Bytes b) (right : checks b ≡ true) where
           (refl, refl),
         );
         so = whole b h (omega arith) right _ (rw l (cut-body 2 c l));
-      }))
-      (λ e. inl refl)
+      })
 
   -- a fit
   fit-body : (k : ℕ) → k ≡ getD b 0 0 → length b ≡ 10 → k ∷ [] ++ sizeBytes (sizeAt b 1) ≡ take 9 b
@@ -204,15 +185,10 @@ module _ (b : List ℕ) (h : Bytes b) (right : checks b ≡ true) where
   fit : 7 ≡ getD b 0 0 → Told b (fitOf b)
   unfolding fitOf body
   fit c =
-      by-test b (eqb (length b) 10) (Fit (sizeAt b 1)) Malformed
+      if-so b (eqb (length b) 10)
       (λ e.
       let l = eqb-true (length b) 10 e in
-      inr
-      (record {
-        can-be = (size-numbers b h 1, (refl, refl));
-        so = whole b h (omega arith) right _ (rw l (fit-body 7 c l));
-      }))
-      (λ e. inl refl)
+      record { can-be = (size-numbers b h 1, (refl, refl)); so = whole b h (omega arith) right _ (rw l (fit-body 7 c l)) })
 
   -- contents
   contents-body : (k : ℕ) → k ≡ getD b 0 0 → 2 ≤ length b → k ∷ [] ++ contentsPart b ≡ take (length b - 1) b
@@ -224,11 +200,10 @@ module _ (b : List ℕ) (h : Bytes b) (right : checks b ≡ true) where
   contents : 8 ≡ getD b 0 0 → Told b (contentsOf b)
   unfolding contentsOf body
   contents c =
-      by-test b (leb 2 (length b)) Contents Malformed
+      if-so b (leb 2 (length b))
       (λ e.
       let l = leb-true 2 (length b) e in
-      inr (record { can-be = refl; so = whole b h (omega arith) right _ (contents-body 8 c l) }))
-      (λ e. inl refl)
+      record { can-be = refl; so = whole b h (omega arith) right _ (contents-body 8 c l) })
 
   -- a load
   module _ (c : 1 ≡ getD b 0 0) (long : 20 + modelLength b ≤ length b) where
@@ -271,28 +246,25 @@ module _ (b : List ℕ) (h : Bytes b) (right : checks b ≡ true) where
   load : 1 ≡ getD b 0 0 → Told b (loadOf b)
   unfolding loadOf isLoad
   load c =
-      by-test b (isLoad b) (Load (optional (hasRaw b) (sizeAt b 2)) (optional (hasPicture b) (sizeAt b 10))) Malformed
+      if-so b (isLoad b)
       (λ e.
       let x = and-both (leb (20 + modelLength b) (length b)) _ e in
       let y = and-both (leb (flags b) 3) _ (x .1) in
       let z = and-both (sidesAgree (hasRaw b) (sizeAt b 2)) _ (y .1) in
-      inr
-      (load-encodes c (leb-true (20 + modelLength b) (length b) (x .0)) (leb-true (flags b) 3 (y .0)) (z .0) (z .1)))
-      (λ e. inl refl)
+      load-encodes c (leb-true (20 + modelLength b) (length b) (x .0)) (leb-true (flags b) 3 (y .0)) (z .0) (z .1))
 
   -- ---- every code
   coded : (k : ℕ) → k ≡ getD b 0 0 → Told b (byCode k b)
-  unfolding byCode
+  unfolding byCode body
   coded k c =
-      by-test b (eqb k 1) _ _ (λ e. load (sym (eqb-true k 1 e) ∙ c))
-      (λ _. by-test b (eqb k 2) _ _ (λ e. cut (sym (eqb-true k 2 e) ∙ c))
-      (λ _. by-test b (eqb k 3) _ _ (λ e. turn (sym (eqb-true k 3 e) ∙ c))
-      (λ _. by-test b (eqb k 4) _ _ (λ e. mirror (sym (eqb-true k 4 e) ∙ c))
-      (λ _. by-test b (eqb k 5) _ _ (λ e. back (sym (eqb-true k 5 e) ∙ c))
-      (λ _. by-test b (eqb k 6) _ _ (λ e. list (sym (eqb-true k 6 e) ∙ c))
-      (λ _. by-test b (eqb k 7) _ _ (λ e. fit (sym (eqb-true k 7 e) ∙ c))
-      (λ _. by-test b (eqb k 8) _ _ (λ e. contents (sym (eqb-true k 8 e) ∙ c)) (λ _. inl refl))))))))
+      arm 1 load (arm 2 cut
+      (arm 3 (plain Turn 3 (refl, refl) refl) (arm 4 (plain Mirror 4 (refl, refl) refl)
+      (arm 5 (plain Back 5 (refl, refl) refl) (arm 6 (plain ListPoints 6 (refl, refl) refl)
+      (arm 7 fit (arm 8 contents (inl refl))))))))
+    where
+      arm : (n : ℕ) {x y : Call} → (n ≡ getD b 0 0 → Told b x) → Told b y → Told b (cond (eqb k n) x y)
+      arm n f g = by-cond (Told b) (eqb k n) (λ e. f (sym (eqb-true k n e) ∙ c)) (λ e. g)
 
 pub read-is-encoded : ReadIsEncoded
 unfolding callOf
-read-is-encoded b h = by-test b (checks b) (byCode (getD b 0 0) b) Malformed (λ e. coded b h e (getD b 0 0) refl) (λ e. inl refl)
+read-is-encoded b h = by-cond (Told b) (checks b) (λ e. coded b h e (getD b 0 0) refl) (λ e. inl refl)

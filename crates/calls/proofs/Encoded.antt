@@ -1,7 +1,7 @@
 -- What is encoded is read back, and is bytes. The idea: the code, the flags and the numbers stand at fixed places, so what is read
 -- there computes; a number's four bytes give the number back, and the model and the block lie between them and the check. Assumes
 -- nothing.
-use Prim.Native.Nat.{ℕ, zero, suc, _<_, _+_, _*_, _-_, _/_, _%_}
+use Prim.Native.Nat.{ℕ, zero, suc, _<_, _≤_, _+_, _*_, _-_, _/_, _%_}
 use mathlib.Core.Bool.{true}
 use mathlib.Core.List.{List, [], _∷_, _++_, append-assoc}
 use mathlib.Core.Path.{_≡_, refl, sym, ap, _∙_}
@@ -18,7 +18,7 @@ use Rattle.reading.specs.declared.geometry.OptionalSize.the-variants.{Missing, 
 use Rattle.hex.specs.Hex.{sum, checks}
 use Rattle.calls.specs.declared.Call.{Call}
 use Rattle.calls.specs.declared.Call.the-variants.{Malformed, Load, Cut, Turn, Mirror, Back, ListPoints, Fit, Contents}
-use Rattle.calls.specs.Format.{ofLength, sizeAt, sidesAgree, optional, isLoad, loadOf, byCode, callOf, modelPart, blockPart, contentsPart}
+use Rattle.calls.specs.Format.{ofLength, sizeAt, flags, modelLength, sidesAgree, optional, isLoad, loadOf, byCode, callOf, modelPart, blockPart, contentsPart}
 use Rattle.calls.specs.Laws.{fourBytes, sizeBytes, isGiven, flagByte, sidesOf, body, checkOf, checked, encoded, Number, SizeNumbers, Encodable, ReadBack, EncodedIsRead, Bytes, EncodedIsBytes}
 use Rattle.calls.proofs.Laws as laws
 
@@ -134,6 +134,24 @@ flag-picture Missing (Given t) = refl
 flag-picture (Given s) Missing = refl
 flag-picture (Given s) (Given t) = refl
 
+load-of : (b : List ℕ) (o p : OptionalSize) → 20 + modelLength b ≤ length b → flags b ≡ flagByte o p → sizeAt b 2 ≡ sidesOf o → sizeAt b 10 ≡ sidesOf p
+    → loadOf b ≡ Load o p
+unfolding loadOf isLoad
+load-of b o p l f s t =
+    rw (
+      le-leb (20 + modelLength b) (length b) l,
+      f,
+      s,
+      t,
+      flags-few o p,
+      flag-raw o p,
+      flag-picture o p,
+      sizes-agree o,
+      sizes-agree p,
+      size-again o,
+      size-again p,
+    )
+
 -- its model and block, with anything for the check
 module _ (f : ℕ) (s t : Size) (m k : List ℕ) (c : ℕ) where
   abbrev line : List ℕ
@@ -177,41 +195,9 @@ module _ (f : ℕ) (s t : Size) (m k : List ℕ) (c : ℕ) where
   unfolding fourBytes
   second-size h = sym (size-back line 10 t (length m ∷ [] ++ m ++ k ++ c ∷ []) h refl)
 
-module _ (o p : OptionalSize) (m k : List ℕ) (c : ℕ) (ho : SizeNumbers (sidesOf o)) (hp : SizeNumbers (sidesOf p)) where
-  abbrev load-line : List ℕ
-  load-line = line (flagByte o p) (sidesOf o) (sidesOf p) m k c
-
-  is-load : isLoad load-line ≡ true
-  unfolding isLoad
-  is-load =
-      let l : leb (20 + length m) (length load-line) ≡ true =
-      le-leb (20 + length m) (length load-line) (omega (arith, line-long (flagByte o p) (sidesOf o) (sidesOf p) m k c)) in
-      rw (
-        model-length (flagByte o p) (sidesOf o) (sidesOf p) m k c,
-        l,
-        the-flags (flagByte o p) (sidesOf o) (sidesOf p) m k c,
-        flags-few o p,
-        flag-raw o p,
-        flag-picture o p,
-        first-size (flagByte o p) (sidesOf o) (sidesOf p) m k c ho,
-        second-size (flagByte o p) (sidesOf o) (sidesOf p) m k c hp,
-        sizes-agree o,
-        sizes-agree p,
-      )
-
-  load-sizes : loadOf load-line ≡ Load o p
-  unfolding loadOf
-  load-sizes =
-      rw (
-        is-load,
-        the-flags (flagByte o p) (sidesOf o) (sidesOf p) m k c,
-        flag-raw o p,
-        flag-picture o p,
-        first-size (flagByte o p) (sidesOf o) (sidesOf p) m k c ho,
-        second-size (flagByte o p) (sidesOf o) (sidesOf p) m k c hp,
-        size-again o,
-        size-again p,
-      )
+  line-load : (o p : OptionalSize) → f ≡ flagByte o p → s ≡ sidesOf o → t ≡ sidesOf p → SizeNumbers s → SizeNumbers t → loadOf line ≡ Load o p
+  line-load o p ef es et hs ht =
+      load-of line o p (omega (arith, model-length, line-long)) (the-flags ∙ ef) (first-size hs ∙ es) (second-size ht ∙ et)
 
 load-back : (o p : OptionalSize) (m k : List ℕ) → SizeNumbers (sidesOf o) → SizeNumbers (sidesOf p)
     → ReadBack (Load o p) m k (encoded (Load o p) m k)
@@ -219,7 +205,7 @@ unfolding body checked byCode
 load-back o p m k ho hp =
     let s = body (Load o p) m k in
     record {
-      the-call = by-its-code s (Load o p) (load-sizes o p m k (checkOf s) ho hp);
+      the-call = by-its-code s (Load o p) (line-load (flagByte o p) (sidesOf o) (sidesOf p) m k (checkOf s) o p refl refl refl ho hp);
       the-model = load-model (flagByte o p) (sidesOf o) (sidesOf p) m k (checkOf s);
       the-block = load-block (flagByte o p) (sidesOf o) (sidesOf p) m k (checkOf s);
     }

@@ -3,7 +3,7 @@
 -- Assumes nothing.
 use Prim.Native.Nat.{ℕ, zero, suc, _+_, _*_, _-_, _/_, _%_, _<_, _≤_}
 use mathlib.Core.Path.{_≡_, refl, sym, _∙_}
-use mathlib.Core.Bool.{Bool, true, false, _&&_, not, false≢true}
+use mathlib.Core.Bool.{Bool, true, false, not, false≢true}
 use mathlib.Core.List.{List, [], _∷_}
 use mathlib.Core.Logic.{⊎-elim}
 use lib.ListN.{length, take, drop, getD, set, drop-of-length-le}
@@ -12,18 +12,14 @@ use native.Mathlib.Omega.{arith}
 use native.Mathlib.Nat.{zero-add}
 use native.Mathlib.Numerals.{add-one}
 use borrow.Author.Tests.{lt-ltb, le-ltb, le-leb, lt-leb, leb-true, eq-eqb, ne-eqb, not-true, not-false}
-use Rattle.text.proofs.Lists.{by-order, sets-append}
+use Rattle.text.proofs.Lists.{and-both, by-order, sets-append}
 use Rattle.hex.specs.declared.Decoded.the-variants.{Malformed, Bytes}
 use Rattle.hex.specs.Hex.{within, digitOf, allDigits, wellFormed, halfOf, bytesOf, decodedOf, bufferOf, sum}
 
 -- ---- a digit
 -- a character within a range is not below it
-and-left : (a b : Bool) → (a && b) ≡ true → a ≡ true
-and-left true b h = refl
-and-left false b h = h
-
 pub within-low : (low high c : ℕ) (r : Bool) → r ≡ within low high c → r ≡ true → low ≤ c
-within-low low high c r e h = leb-true low c (and-left _ _ (sym e ∙ h))
+within-low low high c r e h = leb-true low c (and-both _ _ (sym e ∙ h) .0)
 
 module _ (c : ℕ) (r : Bool) (er : r ≡ within 48 57 c) where
   pub digit-decimal : r ≡ true → c - 48 ≡ digitOf c

@@ -12,7 +12,7 @@ use lib.Seq.{drop-cons}
 use native.Mathlib.Omega.{arith}
 use native.Mathlib.Numerals.{add-one}
 use borrow.Author.Tests.{eq-eqb, ne-eqb, eqb-true, eqb-false}
-use Rattle.text.proofs.Lists.{by-bool, by-order}
+use Rattle.text.proofs.Lists.{by-bool, by-cond, by-order}
 use Rattle.script.specs.Script.{linesFrom, linesOf, joined}
 use Rattle.script.specs.Parts.{feedAt}
 use Rattle.script.specs.Laws.{NoFeed, NoFeeds, fed, EmptyScript, FedLines, LastUnfed, LinesUnfed, LinesAreScript}
@@ -33,10 +33,7 @@ pub feed-within : (s : List ℕ) → feedAt s ≤ length s
 unfolding feedAt
 feed-within [] = omega arith
 feed-within (c ∷ s) =
-    ⊎-elim
-    (λ (e : eqb c 10 ≡ true). rw e (omega arith))
-    (λ (e : eqb c 10 ≡ false). rw e (omega (arith, feed-within s)))
-    (by-bool (eqb c 10))
+    by-cond (λ (n : ℕ). n ≤ suc (length s)) (eqb c 10) (λ e. omega arith) (λ e. omega (arith, feed-within s))
 
 pub feed-here : (s : List ℕ) (i : ℕ) → i < length s → getD s i 0 ≡ 10 → feedAt (drop i s) ≡ 0
 unfolding feedAt
@@ -106,16 +103,10 @@ no-feed-append (d ∷ l) c h g = (h .0, no-feed-append l c (h .1) g)
 
 unfed-from : (s l : List ℕ) → NoFeed l → NoFeeds (linesFrom l s)
 unfolding linesFrom NoFeed NoFeeds
-unfed-from [] l h =
-    ⊎-elim
-    (λ (e : eqb (length l) 0 ≡ true). rw e tt)
-    (λ (e : eqb (length l) 0 ≡ false). rw e (h, tt))
-    (by-bool (eqb (length l) 0))
+unfed-from [] l h = by-cond NoFeeds (eqb (length l) 0) (λ e. tt) (λ e. (h, tt))
 unfed-from (c ∷ s) l h =
-    ⊎-elim
-    (λ (e : eqb c 10 ≡ true). rw e (h, unfed-from s [] tt))
-    (λ (e : eqb c 10 ≡ false). rw e (unfed-from s (l ++ (c ∷ [])) (no-feed-append l c h (eqb-false c 10 e))))
-    (by-bool (eqb c 10))
+    by-cond NoFeeds (eqb c 10) (λ e. (h, unfed-from s [] tt))
+    (λ e. unfed-from s (l ++ (c ∷ [])) (no-feed-append l c h (eqb-false c 10 e)))
 
 pub lines-unfed : LinesUnfed
 unfolding NoFeed

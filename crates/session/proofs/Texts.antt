@@ -1,23 +1,21 @@
 -- The text of each answer is what the functions of `text` put: one law for each return of this crate. A listing has 39 points at the
 -- most (a usable sheet's count bounds it), contents four tags, so no text is longer than 2,700 characters. Assumes nothing.
-use Prim.Native.Nat.{ℕ, _+_, _≤_, min}
-use mathlib.Core.Bool.{Bool, true, false, cond}
-use mathlib.Core.List.{List, [], _∷_, _++_}
-use mathlib.Core.Logic.{⊎-elim}
-use mathlib.Core.Path.{_≡_, refl, sym, ap, _∙_}
-use lib.Dec.{eqb}
-use lib.ListN.{length, replicate}
+use Prim.Native.Nat.{ℕ, suc, _≤_, min}
+use mathlib.Core.Bool.{true, cond}
+use mathlib.Core.List.{List, [], _∷_}
+use mathlib.Core.Path.{_≡_, refl, ap, _∙_}
+use lib.ListN.{length}
 use native.Mathlib.Nat.{min-eq-left}
 use native.Mathlib.Omega.{arith}
 use borrow.Author.Tests.{eq-eqb, ne-eqb}
 use Rattle.text.specs.Answers.{okText, noText, tagsText, headText, pointsText}
 use Rattle.text.specs.Put.{Put}
-use Rattle.text.proofs.Laws.{Puts, joins, at-most}
-use Rattle.text.proofs.Lists.{by-bool}
+use Rattle.text.proofs.Laws.{Puts, _▹_, at-most}
+use Rattle.text.proofs.Lists.{by-cond}
 use Rattle.tiff.specs.Outcome.{Outcome, refused, accepted}
 use Rattle.tiff.specs.Block.{blockOf, findOf, isKept}
 use Rattle.reading.specs.Focus.{modeNumber}
-use Rattle.reading.specs.Contents.{contentsNumber, contentsOf, contentsIn, fourTags, keptAmong, keptTags}
+use Rattle.reading.specs.Contents.{contentsOf, contentsIn, fourTags, keptAmong, keptTags}
 use Rattle.tiff.specs.declared.io.ByteOrder.{ByteOrder}
 use Rattle.reading.specs.declared.geometry.Size.{Size}
 use Rattle.reading.specs.declared.geometry.OptionalSize.{OptionalSize}
@@ -33,13 +31,13 @@ use Rattle.sheet.specs.declared.Edited.{Edited}
 use Rattle.sheet.specs.declared.Loaded.{Loaded}
 use Rattle.sheet.specs.declared.list.Listing.{Listing}
 use Rattle.sheet.specs.declared.list.ListAnswer.{ListAnswer}
-use Rattle.sheet.specs.declared.list.ListAnswer.the-variants.{Empty, ZeroBox, Short, Listed}
-use Rattle.sheet.specs.Sheet.{usable, editNumber, loadNumber, loadSheet, backSheet, presentFrame}
+use Rattle.sheet.specs.declared.list.ListAnswer.the-variants.{Short, Listed}
+use Rattle.sheet.specs.Sheet.{usable, editNumber, loadNumber, loadSheet, presentFrame}
 use Rattle.sheet.specs.Listing.{listNumber, headNumbers, listing, listed, listCount, listIndex, isShort, headIn, listAnswer, listBuffer, fitAnswer, fitBuffer}
 use Rattle.sheet.proofs.Listed.{listing-length}
-use Rattle.sheet.proofs.Usable.{Counts, usable-told}
-use Rattle.journal.specs.Journal.{Change, Answer}
-use Rattle.journal.specs.Calls.{Call, load, change, back, list, fit, numbered, given, edited, loaded, changed, sheetStep}
+use Rattle.sheet.proofs.Usable.{usable-told}
+use Rattle.journal.specs.Journal.{Answer}
+use Rattle.journal.specs.Calls.{Call, load, list, fit, numbered, given, edited, sheetStep}
 use Rattle.session.specs.declared.Stepped.{Stepped}
 use Rattle.session.specs.Lines.{Spelled, contents, asks, spelledBy, spelledIn, lentBuffer, givenText, outcomeText, answerText, tagListText, mostText, fewPoints, Answers}
 
@@ -65,7 +63,7 @@ module _ {o o₁ : List ℕ} {a a₁ : ℕ} where
   pub listing-text : {o₂ : List ℕ} {a₂ : ℕ} (l : Listing) (ws hs : List ℕ) → hs ≡ headNumbers l → l .count ≤ 39 → Puts o a (headText hs) 99 o₁ a₁
       → Puts o₁ a₁ (pointsText ws (min (l .count) 39)) 2574 o₂ a₂ → Puts o a (givenText (headNumbers l) ws) mostText o₂ a₂
   unfolding givenText headNumbers
-  listing-text l ws hs e h p q = at-most (joins (rw e at p) (rw (min-eq-left h) at q)) (omega arith)
+  listing-text l ws hs e h p q = at-most (rw e at p ▹ rw (min-eq-left h) at q) (omega arith)
 
   -- ---- contents
   pub contents-no : (r : TagList) → r .answer ≡ contents-answers.Unreadable → Puts o a (noText 1) 14 o₁ a₁ → Puts o a (tagListText r) mostText o₁ a₁
@@ -89,36 +87,22 @@ unfolding headNumbers
 head-is l m n e f = rw (e, f)
 
 -- ---- few points, few tags
-few-listed : (s : Sheet) (f : Size) (u : Bool) → usable s ≡ u → u ≡ true → fewPoints (Listed (headIn f s))
+few-listed : (s : Sheet) (f : Size) (m : ℕ) → usable s ≡ true → fewPoints (cond (isShort s m) Short (Listed (headIn f s)))
 unfolding headIn listCount listIndex listed
-few-listed s f u e h =
-    let c = usable-told s (e ∙ h) in
-    (omega (arith, c .points, listing-length s (s .count)), omega (arith, c .points, c .primary, listing-length s (s .primary)))
+few-listed s f m h =
+    let c = usable-told s h in
+    by-cond fewPoints (isShort s m) (λ e. tt)
+    (λ e. (omega (arith, c .points, listing-length s (s .count)), omega (arith, c .points, c .primary, listing-length s (s .primary))))
 
 pub few-list : (s : Sheet) (m : ℕ) (x : ListAnswer) → x ≡ listAnswer s m → fewPoints x
 unfolding listAnswer
-few-list s m x e =
-    rw e
-    (⊎-elim
-    (λ (h : usable s ≡ true).
-    rw h (⊎-elim (λ (g : isShort s m ≡ true). rw g tt) (λ (g : isShort s m ≡ false). rw g (few-listed s (presentFrame s) true h refl)) (by-bool (isShort s m))))
-    (λ (h : usable s ≡ false). rw h tt)
-    (by-bool (usable s)))
+few-list s m x e = rw e (by-cond fewPoints (usable s) (few-listed s (presentFrame s) m) (λ h. tt))
 
 pub few-fit : (s : Sheet) (box : Size) (m : ℕ) (x : ListAnswer) → x ≡ fitAnswer s box m → fewPoints x
 unfolding fitAnswer
 few-fit s box m x e =
     rw e
-    (⊎-elim
-    (λ (h : usable s ≡ true).
-    rw h
-    (⊎-elim
-    (λ (z : hasZeroSide box ≡ true). rw z tt)
-    (λ (z : hasZeroSide box ≡ false).
-    rw z (⊎-elim (λ (g : isShort s m ≡ true). rw g tt) (λ (g : isShort s m ≡ false). rw g (few-listed s box true h refl)) (by-bool (isShort s m))))
-    (by-bool (hasZeroSide box))))
-    (λ (h : usable s ≡ false). rw h tt)
-    (by-bool (usable s)))
+    (by-cond fewPoints (usable s) (λ h. by-cond fewPoints (hasZeroSide box) (λ z. tt) (λ z. few-listed s box m h)) (λ h. tt))
 
 pub few-of-listed : (x : ListAnswer) (l : Listing) → x ≡ Listed l → fewPoints x → (l .count ≤ 39) × (l .index ≤ 39)
 few-of-listed x l e h = rw e at h
@@ -127,10 +111,8 @@ kept-few : (o : ByteOrder) (s ts : List ℕ) → length (keptAmong o s ts) ≤ l
 unfolding keptAmong
 kept-few o s [] = omega arith
 kept-few o s (t ∷ ts) =
-    ⊎-elim
-    (λ (h : isKept (findOf o s t) ≡ true). rw h (omega (arith, kept-few o s ts)))
-    (λ (h : isKept (findOf o s t) ≡ false). rw h (omega (arith, kept-few o s ts)))
-    (by-bool (isKept (findOf o s t)))
+    by-cond (λ (l : List ℕ). length l ≤ suc (length ts)) (isKept (findOf o s t))
+    (λ h. omega (arith, kept-few o s ts)) (λ h. omega (arith, kept-few o s ts))
 
 few-tags : (b : Outcome ByteOrder) (s : List ℕ) → contentsIn b s .count ≤ 4
 unfolding contentsIn keptTags

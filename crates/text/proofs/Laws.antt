@@ -1,14 +1,14 @@
 -- Appends compose: a text put behind another is the one text of both, whether there is room or not. The idea: places past the
 -- buffer's end are all alike, so that the cap on places changes nothing. Then the laws of a loop that appends, and of how long a text
 -- is. Assumes nothing.
-use Prim.Native.Nat.{ℕ, _+_, _<_, _≤_}
+use Prim.Native.Nat.{ℕ, suc, _+_, _*_, _<_, _≤_}
 use mathlib.Core.Path.{_≡_, refl, sym, ap, _∙_}
 use mathlib.Core.List.{List, [], _∷_, _++_, append-nil, append-assoc}
 use mathlib.Core.Logic.{⊎-elim}
 use lib.ListN.{length, take, length-append, getD}
 use lib.Seq.{sets, set-out, length-sets, take-suc, take-all}
 use native.Mathlib.Omega.{arith}
-use native.Mathlib.Nat.{min-eq-left, min-eq-right}
+use native.Mathlib.Nat.{min-eq-left, min-eq-right, suc-mul}
 use native.Mathlib.Numerals.{add-one}
 use Rattle.text.specs.Put.{Put, capped}
 use Rattle.text.proofs.Lists.{by-order, sets-past, sets-append}
@@ -77,11 +77,24 @@ going-end {w = w} g =
 abbrev pub Puts : List ℕ → ℕ → List ℕ → ℕ → List ℕ → ℕ → Type 0
 Puts o a t m o₁ a₁ = (Put o a t o₁ a₁) × (length t ≤ m)
 
-pub joins : {o o₁ o₂ ts us : List ℕ} {a a₁ a₂ m k : ℕ} → Puts o a ts m o₁ a₁ → Puts o₁ a₁ us k o₂ a₂ → Puts o a (ts ++ us) (m + k) o₂ a₂
-joins {ts = ts} {us = us} p q = (join (p .0) (q .0), rw (length-append ts us) (omega arith))
+-- and another behind it
+infixl 60 _▹_
+pub _▹_ : {o o₁ o₂ ts us : List ℕ} {a a₁ a₂ m k : ℕ} → Puts o a ts m o₁ a₁ → Puts o₁ a₁ us k o₂ a₂ → Puts o a (ts ++ us) (m + k) o₂ a₂
+_▹_ {ts = ts} {us = us} p q = (join (p .0) (q .0), rw (length-append ts us) (omega arith))
 
 pub at-most : {o o₁ t : List ℕ} {a a₁ m k : ℕ} → Puts o a t m o₁ a₁ → m ≤ k → Puts o a t k o₁ a₁
 at-most p h = (p .0, omega arith)
+
+-- ---- a text that is put row by row, of m characters at the most each: ts i are the first i of them
+pub rows-none : (o : List ℕ) (a m : ℕ) → a ≤ 18446744073709551615 → length o ≤ 18446744073709551615 → Puts o a [] m o a
+rows-none o a m h g = (put-none o a h g, omega arith)
+
+module _ (ts : ℕ → List ℕ) (m : ℕ) {o o₁ : List ℕ} {a a₁ : ℕ} (i : ℕ) (p : Puts o a (ts i) (i * m) o₁ a₁) where
+  pub rows-more : {o₂ us : List ℕ} {a₂ : ℕ} → ts (suc i) ≡ ts i ++ us → Puts o₁ a₁ us m o₂ a₂ → Puts o a (ts (i + 1)) ((i + 1) * m) o₂ a₂
+  rows-more e q = rw (add-one, e, suc-mul i m) (p ▹ q)
+
+  pub rows-done : (n k : ℕ) → i ≡ n → n * m ≤ k → Puts o a (ts n) k o₁ a₁
+  rows-done n k e h = rw (← e) (at-most p (rw (← e) at h))
 
 -- the next place: past a text that has room it is the one behind it, and it is never farther than the text is long
 pub put-room : {o o₁ t : List ℕ} {a a₁ : ℕ} → Put o a t o₁ a₁ → a + length t ≤ length o → a₁ ≡ a + length t

@@ -1,8 +1,8 @@
--- Laws of lists and tests that the crates of the protocol share: a test is true or false, two numbers are in order one way or the
--- other, and what is laid over a list in two goes is laid in one. Assumes nothing.
+-- Laws of lists and tests that the crates of the protocol share: a test is true or false, two tests that hold together hold each, two
+-- numbers are in order one way or the other, and what is laid over a list in two goes is laid in one. Assumes nothing.
 use Prim.Native.Nat.{ℕ, suc, _+_, _<_, _≤_}
 use mathlib.Core.Path.{_≡_, refl}
-use mathlib.Core.Bool.{Bool, true, false}
+use mathlib.Core.Bool.{Bool, true, false, _&&_, cond, false≢true}
 use mathlib.Core.List.{List, [], _∷_, _++_}
 use mathlib.Core.Logic.{⊎-elim, _⊎_, inl, inr}
 use lib.Dec.{ltb}
@@ -15,6 +15,15 @@ use borrow.Author.Tests.{ltb-true, ltb-false}
 pub by-bool : (t : Bool) → (t ≡ true) ⊎ (t ≡ false)
 by-bool true = inl refl
 by-bool false = inr refl
+
+-- what holds either way holds of the choice
+pub by-cond : {A : Type 0} (P : A → Type 0) (t : Bool) {x y : A} → (t ≡ true → P x) → (t ≡ false → P y) → P (cond t x y)
+by-cond P true f g = f refl
+by-cond P false f g = g refl
+
+pub and-both : (a b : Bool) → (a && b) ≡ true → (a ≡ true) × (b ≡ true)
+and-both true b h = (refl, h)
+and-both false b h = absurd (false≢true h)
 
 pub by-order : (a b : ℕ) → (a < b) ⊎ (b ≤ a)
 by-order a b = ⊎-elim (λ e. inl (ltb-true a b e)) (λ e. inr (ltb-false a b e)) (by-bool (ltb a b))

@@ -1,5 +1,6 @@
 //! Times one load on both sides, a listing behind edits, and the lines that focusdesk answers in a second. Prints a table in Markdown.
-//! Usage: bench REPOSITORY, the folder that has crates/ and target/bin/focusdesk.
+//! Usage: bench REPOSITORY, the folder that has crates/ and target/bin/focusdesk. With a KIND of loads behind it, which is named, recorded
+//! or refused, it times nothing: it answers those loads and prints how many calls that took, for tools/bench/count.
 
 mod blocks;
 
@@ -15,6 +16,7 @@ use blocks::{Load, grown, stored, with_all_points};
 use oracle::{Answer, FocusOrigin};
 
 const ROUNDS: usize = 7;
+const PASSES: usize = 20;
 
 /// The shortest time of some rounds.
 fn shortest(mut work: impl FnMut()) -> Duration {
@@ -59,6 +61,15 @@ fn loads_row(name: &str, loads: &[Load]) {
     println!("| {name} | {} | {theirs:.0} | {own:.0} | {:.1} |", loads.len(), theirs / own);
 }
 
+/// Answers the loads by this library alone, some times over, and prints the number of calls.
+fn answer_only(loads: &[Load]) {
+    let mut out = [0; focuspoints::LISTING];
+    for load in (0..PASSES).flat_map(|_| loads) {
+        black_box(ours(black_box(load), &mut out));
+    }
+    println!("{}", PASSES * loads.len());
+}
+
 /// How long the program takes for a script from a file.
 fn program_time(program: &Path, script: &[u8]) -> Duration {
     let path = env::temp_dir().join(format!("bench-{}.txt", std::process::id()));
@@ -84,7 +95,7 @@ fn listing_row(program: &Path, edits: usize) -> f64 {
 }
 
 fn main() {
-    let root = env::args().nth(1).expect("usage: bench REPOSITORY");
+    let root = env::args().nth(1).expect("usage: bench REPOSITORY [KIND]");
     let root = Path::new(&root);
     let program = root.join("target/bin/focusdesk");
     let all = stored(&fs::read(root.join("crates/placing_test/stdin")).unwrap());
@@ -95,6 +106,13 @@ fn main() {
         };
         all.iter().filter(fits).cloned().collect()
     };
+    match env::args().nth(2).as_deref() {
+        None => {}
+        Some("named") => return answer_only(&of(Some(FocusOrigin::Table))),
+        Some("recorded") => return answer_only(&of(Some(FocusOrigin::Recorded))),
+        Some("refused") => return answer_only(&of(None)),
+        Some(kind) => panic!("no kind {kind}: named, recorded or refused"),
+    }
     let (named, recorded, refused) = (of(Some(FocusOrigin::Table)), of(Some(FocusOrigin::Recorded)), of(None));
     println!("| loads | how many | the Rust original, ns a load | here, ns a load | times as fast |");
     println!("|---|---|---|---|---|");

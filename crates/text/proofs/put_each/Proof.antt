@@ -1,6 +1,7 @@
 -- `put_each`: the loop's invariant is that the first i tags are put, 11 characters a tag at the most. Assumes nothing.
 use Rattle.text.proofs.Laws as laws
-use Rattle.text.proofs.Lines as lines
+use Rattle.text.proofs.Lines.{numbered, space}
+use mathlib.Core.Path.{refl}
 use native.Mathlib.Omega.{arith}
 use borrow.Author.Needs.{needs}
 use Prim.Native.Nat.{_≤_, _-_, _*_}
@@ -15,7 +16,8 @@ abbrev μ-loop : tie.MeasureT-loop
 μ-loop out₀ at tags n after₀ i₀ t7 out after i = n - i
 
 loop-holds : tie.Need-loop-holds Inv-loop μ-loop
-loop-holds c = (omega arith, lines.tags-none _ _ _ (omega arith) (omega arith))
+unfolding nextAll
+loop-holds c = (omega arith, laws.rows-none _ _ _ (omega arith) (omega arith))
 
 slice-aggregate-put-pair : tie.Need-slice-aggregate-put-pair Inv-loop μ-loop
 slice-aggregate-put-pair c = search needs
@@ -36,13 +38,14 @@ loop-less : tie.Need-loop-less Inv-loop μ-loop
 loop-less c = omega arith
 
 loop-again : tie.Need-loop-again Inv-loop μ-loop
-loop-again c = (omega arith, lines.tags-more _ _ (c .before .before .before .tag-at .ensures) (c .before .before .before .before .before .before .before .loop .inv .1) (c .before .before .put-pair .ensures))
+unfolding nextAll
+loop-again c = (omega arith, laws.rows-more (nextAll _) 11 _ (c .before .before .before .before .before .before .before .loop .inv .1) refl (numbered space (c .before .before .before .tag-at .ensures) (c .before .before .put-pair .ensures)))
 
 same-length : tie.Need-same-length Inv-loop μ-loop
 same-length c = laws.put-same (c .before .loop .inv .1 .0)
 
 returns : tie.Need-returns Inv-loop μ-loop
-returns c = lines.tags-done _ _ _ (omega arith) (c .before .before .before .before .pre) (c .before .loop .inv .1)
+returns c = laws.rows-done (nextAll _) 11 _ (c .before .loop .inv .1) _ _ (omega arith) (omega (arith, c .before .before .before .before .pre))
 
 pub put-each-spec : {M : Type 1} → statement M
 put-each-spec =

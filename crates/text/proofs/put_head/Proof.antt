@@ -1,7 +1,7 @@
 -- `put_head`: six words with their numbers, and the feed, joined. c1 to c6 are the places after the six. Assumes nothing.
-use Rattle.text.proofs.Laws as laws
-use Rattle.text.proofs.Lines as lines
-use mathlib.Core.Path.{_∙_}
+use Rattle.text.proofs.Laws.{_▹_, put-same}
+use Rattle.text.proofs.Lines.{numbered, ended, frameWord, space, pointsWord, primaryWord, modeWord, originWord}
+use Rattle.text.specs.Answers.{headText}
 use borrow.Author.Needs.{needs}
 use Rattle.text.proofs.put_head.Statement.{statement}
 use Rattle.text.proofs.put_head.Tie as tie
@@ -63,17 +63,8 @@ put-pair-requires-6 c κs = tt
 put-byte-requires : tie.Need-put-byte-requires
 put-byte-requires c κs = tt
 
-same-length : tie.Need-same-length
-same-length c =
-    let c6 = c .before .before .before .before .before .before in
-    let c5 = c6 .before .before .before .before .before .before in
-    let c4 = c5 .before .before .before .before .before .before in
-    let c3 = c4 .before .before .before .before .before .before in
-    let c2 = c3 .before .before .before .before .before .before in
-    let c1 = c2 .before .before .before .before .before .before in
-    laws.put-same (c .before .before .put-byte .ensures) ∙ laws.put-same (c6 .put-pair6 .ensures .0) ∙ laws.put-same (c5 .put-pair5 .ensures .0) ∙ laws.put-same (c4 .put-pair4 .ensures .0) ∙ laws.put-same (c3 .put-pair3 .ensures .0) ∙ laws.put-same (c2 .put-pair2 .ensures .0) ∙ laws.put-same (c1 .put-pair .ensures .0)
-
 returns : tie.Need-returns
+unfolding headText
 returns c =
     let c6 = c .before .before .before .before .before .before in
     let c5 = c6 .before .before .before .before .before .before in
@@ -81,20 +72,16 @@ returns c =
     let c3 = c4 .before .before .before .before .before .before in
     let c2 = c3 .before .before .before .before .before .before in
     let c1 = c2 .before .before .before .before .before .before in
-    lines.head-line _
-    (c1 .before .word-at .ensures)
-    (c2 .before .word-at2 .ensures)
-    (c3 .before .word-at3 .ensures)
-    (c4 .before .word-at4 .ensures)
-    (c5 .before .word-at5 .ensures)
-    (c6 .before .word-at6 .ensures)
-    (c1 .put-pair .ensures)
-    (c2 .put-pair2 .ensures)
-    (c3 .put-pair3 .ensures)
-    (c4 .put-pair4 .ensures)
-    (c5 .put-pair5 .ensures)
-    (c6 .put-pair6 .ensures)
-    (c .before .before .put-byte .ensures)
+    numbered frameWord (c1 .before .word-at .ensures) (c1 .put-pair .ensures)
+    ▹ numbered space (c2 .before .word-at2 .ensures) (c2 .put-pair2 .ensures)
+    ▹ numbered pointsWord (c3 .before .word-at3 .ensures) (c3 .put-pair3 .ensures)
+    ▹ numbered primaryWord (c4 .before .word-at4 .ensures) (c4 .put-pair4 .ensures)
+    ▹ numbered modeWord (c5 .before .word-at5 .ensures) (c5 .put-pair5 .ensures)
+    ▹ numbered originWord (c6 .before .word-at6 .ensures) (c6 .put-pair6 .ensures)
+    ▹ ended (c .before .before .put-byte .ensures)
+
+same-length : tie.Need-same-length
+same-length c = put-same (returns c .0)
 
 pub put-head-spec : {M : Type 1} → statement M
 put-head-spec =

@@ -1,7 +1,8 @@
 -- `put_no`: the word, the number and the feed, joined. Assumes nothing.
-use Rattle.text.proofs.Laws as laws
-use Rattle.text.proofs.Lines as lines
-use mathlib.Core.Path.{_∙_}
+use mathlib.Core.Path.{refl}
+use Rattle.text.proofs.Laws.{_▹_}
+use Rattle.text.proofs.Lines.{numbered, ended, noWord}
+use Rattle.text.specs.Answers.{noText}
 use borrow.Author.Needs.{needs}
 use Rattle.text.proofs.put_no.Statement.{statement}
 use Rattle.text.proofs.put_no.Tie as tie
@@ -16,10 +17,11 @@ put-byte-requires : tie.Need-put-byte-requires
 put-byte-requires c κs = tt
 
 same-length : tie.Need-same-length
-same-length c = laws.put-same (c .before .before .put-byte .ensures) ∙ laws.put-same (c .before .before .before .before .before .before .put-pair .ensures .0)
+same-length c = search needs
 
 returns : tie.Need-returns
-returns c = lines.no-line _ (c .before .before .before .before .before .before .put-pair .ensures) (c .before .before .put-byte .ensures)
+unfolding noText
+returns c = numbered noWord refl (c .before .before .before .before .before .before .put-pair .ensures) ▹ ended (c .before .before .put-byte .ensures)
 
 pub put-no-spec : {M : Type 1} → statement M
 put-no-spec =

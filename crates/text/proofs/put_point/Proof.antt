@@ -1,8 +1,9 @@
 -- `put_point`: six numbers and the feed, joined. c1 to c6 are the places after the six. Assumes nothing.
-use Rattle.text.proofs.Laws as laws
-use Rattle.text.proofs.Lines as lines
+use mathlib.Core.List.{[]}
+use Rattle.text.proofs.Laws.{_▹_, put-same}
+use Rattle.text.proofs.Lines.{numbered, ended, space}
+use Rattle.text.specs.Answers.{pointText}
 use native.Mathlib.Omega.{arith}
-use mathlib.Core.Path.{_∙_}
 use borrow.Author.Needs.{needs}
 use Rattle.text.proofs.put_point.Statement.{statement}
 use Rattle.text.proofs.put_point.Tie as tie
@@ -79,17 +80,8 @@ put-pair-requires-5 c κs = tt
 put-byte-requires : tie.Need-put-byte-requires
 put-byte-requires c κs = tt
 
-same-length : tie.Need-same-length
-same-length c =
-    let c6 = c .before .before .before .before .before .before in
-    let c5 = c6 .before .before .before .before .before .before in
-    let c4 = c5 .before .before .before .before .before .before in
-    let c3 = c4 .before .before .before .before .before .before in
-    let c2 = c3 .before .before .before .before .before .before in
-    let c1 = c2 .before .before .before .before .before .before in
-    laws.put-same (c .before .before .put-byte .ensures) ∙ laws.put-same (c6 .put-pair5 .ensures .0) ∙ laws.put-same (c5 .put-pair4 .ensures .0) ∙ laws.put-same (c4 .put-pair3 .ensures .0) ∙ laws.put-same (c3 .put-pair2 .ensures .0) ∙ laws.put-same (c2 .put-pair .ensures .0) ∙ laws.put-same (c1 .put-number .ensures .0)
-
 returns : tie.Need-returns
+unfolding pointText
 returns c =
     let c6 = c .before .before .before .before .before .before in
     let c5 = c6 .before .before .before .before .before .before in
@@ -97,20 +89,16 @@ returns c =
     let c3 = c4 .before .before .before .before .before .before in
     let c2 = c3 .before .before .before .before .before .before in
     let c1 = c2 .before .before .before .before .before .before in
-    lines.point-line _ _
-    (c1 .before .word-at .ensures)
-    (c2 .before .word-at2 .ensures)
-    (c3 .before .word-at3 .ensures)
-    (c4 .before .word-at4 .ensures)
-    (c5 .before .word-at5 .ensures)
-    (c6 .before .word-at6 .ensures)
-    (c1 .put-number .ensures)
-    (c2 .put-pair .ensures)
-    (c3 .put-pair2 .ensures)
-    (c4 .put-pair3 .ensures)
-    (c5 .put-pair4 .ensures)
-    (c6 .put-pair5 .ensures)
-    (c .before .before .put-byte .ensures)
+    numbered [] (c1 .before .word-at .ensures) (c1 .put-number .ensures)
+    ▹ numbered space (c2 .before .word-at2 .ensures) (c2 .put-pair .ensures)
+    ▹ numbered space (c3 .before .word-at3 .ensures) (c3 .put-pair2 .ensures)
+    ▹ numbered space (c4 .before .word-at4 .ensures) (c4 .put-pair3 .ensures)
+    ▹ numbered space (c5 .before .word-at5 .ensures) (c5 .put-pair4 .ensures)
+    ▹ numbered space (c6 .before .word-at6 .ensures) (c6 .put-pair5 .ensures)
+    ▹ ended (c .before .before .put-byte .ensures)
+
+same-length : tie.Need-same-length
+same-length c = put-same (returns c .0)
 
 pub put-point-spec : {M : Type 1} → statement M
 put-point-spec =

@@ -1,6 +1,6 @@
 -- `put_points`: the loop's invariant is that the lines of the first i points are put, 66 characters a line at the most. Assumes nothing.
 use Rattle.text.proofs.Laws as laws
-use Rattle.text.proofs.Lines as lines
+use mathlib.Core.Path.{refl}
 use native.Mathlib.Omega.{arith}
 use Prim.Native.Nat.{_≤_, _-_, _*_}
 use Rattle.text.specs.Answers.{pointsText}
@@ -17,7 +17,8 @@ smaller-requires : tie.Need-smaller-requires Inv-loop μ-loop
 smaller-requires c κs = tt
 
 loop-holds : tie.Need-loop-holds Inv-loop μ-loop
-loop-holds c = (omega arith, lines.points-none _ _ _ (omega arith) (omega arith))
+unfolding pointsText
+loop-holds c = (omega arith, laws.rows-none _ _ _ (omega arith) (omega arith))
 
 put-point-requires : tie.Need-put-point-requires Inv-loop μ-loop
 put-point-requires c κs = omega (arith, (c .before .before .before .smaller .ensures))
@@ -29,13 +30,14 @@ loop-less : tie.Need-loop-less Inv-loop μ-loop
 loop-less c = omega arith
 
 loop-again : tie.Need-loop-again Inv-loop μ-loop
-loop-again c = (omega arith, lines.points-more _ _ (c .before .before .before .before .before .loop .inv .1) (c .before .before .put-point .ensures))
+unfolding pointsText
+loop-again c = (omega arith, laws.rows-more (pointsText _) 66 _ (c .before .before .before .before .before .loop .inv .1) refl (c .before .before .put-point .ensures))
 
 same-length : tie.Need-same-length Inv-loop μ-loop
 same-length c = laws.put-same (c .before .loop .inv .1 .0)
 
 returns : tie.Need-returns Inv-loop μ-loop
-returns c = lines.points-done _ _ _ (omega (arith, (c .before .before .smaller .ensures))) (omega arith) (c .before .loop .inv .1)
+returns c = laws.rows-done (pointsText _) 66 _ (c .before .loop .inv .1) _ _ (omega (arith, (c .before .before .smaller .ensures))) (omega arith)
 
 pub put-points-spec : {M : Type 1} → statement M
 put-points-spec =

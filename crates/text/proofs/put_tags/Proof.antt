@@ -1,7 +1,7 @@
 -- `put_tags`: the count, the tags and the feed, joined. Assumes nothing.
-use Rattle.text.proofs.Laws as laws
-use Rattle.text.proofs.Lines as lines
-use mathlib.Core.Path.{_∙_}
+use Rattle.text.proofs.Laws.{_▹_}
+use Rattle.text.proofs.Lines.{numbered, ended, tagsWord}
+use Rattle.text.specs.Answers.{tagsText}
 use borrow.Author.Needs.{needs}
 use Rattle.text.proofs.put_tags.Statement.{statement}
 use Rattle.text.proofs.put_tags.Tie as tie
@@ -25,10 +25,15 @@ put-byte-requires : tie.Need-put-byte-requires
 put-byte-requires c κs = tt
 
 same-length : tie.Need-same-length
-same-length c = laws.put-same (c .before .before .put-byte .ensures) ∙ laws.put-same (c .before .before .before .before .before .before .put-each .ensures .0) ∙ laws.put-same (c .before .before .before .before .before .before .before .before .before .before .put-pair .ensures .0)
+same-length c = search needs
 
 returns : tie.Need-returns
-returns c = lines.tags-line _ _ _ (c .before .before .before .before .before .before .before .before .before .before .before .before .before .smaller .ensures) (c .before .before .before .before .before .before .before .before .before .before .put-pair .ensures) (c .before .before .before .before .before .before .put-each .ensures) (c .before .before .put-byte .ensures)
+unfolding tagsText
+returns c =
+    let few = c .before .before .before .before .before .before .before .before .before .before .before .before .before .smaller .ensures in
+    numbered tagsWord few (c .before .before .before .before .before .before .before .before .before .before .put-pair .ensures)
+    ▹ rw few at (c .before .before .before .before .before .before .put-each .ensures)
+    ▹ ended (c .before .before .put-byte .ensures)
 
 pub put-tags-spec : {M : Type 1} → statement M
 put-tags-spec =
