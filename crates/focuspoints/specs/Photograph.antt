@@ -16,7 +16,7 @@ use Rattle.focuspoints.specs.Buffer.{roomNumber, withNumbers}
 unfoldable pub sizeOf : ℕ → ℕ → ℕ → OptionalSize
 sizeOf given width height = cond (eqb given 0) Missing (Given (record { width = width; height = height }))
 
--- "frame, count, primary's index from 0, mode, origin", and then "six 32-bit numbers a point", of a load with no edits
+-- "frame, count, primary's index from 0, mode .., origin", and then "six 32-bit numbers a point", of a load with no edits
 unfoldable pub listingOf : Focus → List ℕ
 listingOf f = head f [] (presentFrame f []) (listing f []) ++ numbers (listing f [])
 

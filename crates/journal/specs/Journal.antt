@@ -15,7 +15,7 @@ use Rattle.fitting.specs.Fit.{hasZeroSide, pointFits}
 use Rattle.fitting.specs.Scale.{scaledPoint}
 use Rattle.placing.specs.Load.{Focus, noPoint, originNumber}
 
--- an edit: "cut left, top, width, height", turn (a clockwise quarter rotation), mirror
+-- an edit: "Cut left, top, width, height", turn (a clockwise quarter rotation), mirror
 pub data Change : Type 0 where
   cut : ℕ → ℕ → ℕ → ℕ → Change
   turn : Change

@@ -1,4 +1,4 @@
--- Laws of lists of calls, which show that the claim is no empty promise: edits undo one another as the picture on the desk would,
+-- Laws of lists of calls, which show that the claim is no empty promise: edits undo one another as they do on a picture in the hand,
 -- every accepted edit moves what is listed, and 64 edits can stand. proofs/Laws.antt proves them.
 use Prim.Native.Nat.{ℕ, _+_, _≤_, _<_}
 use mathlib.Core.List.{List, [], _∷_, _++_}

@@ -32,7 +32,7 @@ scriptText script = joined (journalTexts empty (linesOf script))
 abbrev pub hasRoom : List ℕ → List ℕ → Bool
 hasRoom text out = ltb (length text) 18446744073709551615 && leb (length text) (length out)
 
--- "Written" with its length, or "Short"
+-- written, with its length, or short
 unfoldable pub answeredWith : List ℕ → List ℕ → Answered
 answeredWith text out = cond (hasRoom text out) (Written (length text)) Short
 

@@ -24,7 +24,7 @@ offsetOf o s = u32Of o (drop 4 s)
 unfoldable pub entryCount : ByteOrder → List ℕ → ℕ
 entryCount o s = u16Of o (drop (offsetOf o s) s)
 
--- "then 12 bytes each", all inside the block; "the link after them is not read"
+-- "then 12 bytes each", all inside the block; "The link after them is not read"
 unfoldable pub directoryOf : ByteOrder → List ℕ → Ifd
 directoryOf o s =
     cond (leb (offsetOf o s + 2 + 12 * entryCount o s) (length s)) (Inside (offsetOf o s + 2) (entryCount o s)) Outside

@@ -1,3 +1,4 @@
+-- `edit_number`: case by case. Assumes nothing.
 use Rattle.sheet.specs.Sheet.{editNumber}
 use borrow.Author.Needs.{needs}
 use Rattle.sheet.proofs.edit_number.Statement.{statement}

@@ -1,3 +1,4 @@
+-- `load_number`: 0, or what `refusal_number` ensures. Assumes nothing.
 use mathlib.Core.Path.{_≡_, refl, _∙_}
 use Prim.Native.Nat.{ℕ}
 use Rattle.placing.specs.declared.focus.FocusAnswer.{FocusAnswer}

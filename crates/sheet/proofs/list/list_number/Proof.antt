@@ -1,3 +1,4 @@
+-- `list::list_number`: case by case. Assumes nothing.
 use Rattle.sheet.specs.Listing.{listNumber}
 use borrow.Author.Needs.{needs}
 use Rattle.sheet.proofs.list.list_number.Statement.{statement}
