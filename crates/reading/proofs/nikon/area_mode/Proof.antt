@@ -8,7 +8,6 @@ use borrow.Author.Needs.{needs}
 use Rattle.reading.proofs.nikon.area_mode.Statement.{statement}
 use Rattle.reading.proofs.nikon.area_mode.Tie as tie
 
-
 if-zero-requires : tie.Need-if-zero-requires
 if-zero-requires c κs = search needs
 

@@ -4,7 +4,6 @@ use borrow.Author.Needs.{needs}
 use Rattle.reading.proofs.nikon.if_zero.Statement.{statement}
 use Rattle.reading.proofs.nikon.if_zero.Tie as tie
 
-
 returns : tie.Need-returns
 returns c = rw (eq-eqb _ _ (c .if1 .taken))
 
