@@ -5,13 +5,10 @@ use mathlib.Core.List.{List, [], _∷_}
 use mathlib.Core.Path.{_≡_}
 use lib.ListN.{replicate}
 use Rattle.reading.specs.declared.geometry.OptionalSize.the-variants.{Missing}
+use Rattle.placing.specs.Points.{d600}
 use Rattle.sheet.specs.Sheet.{freshSheet}
 use Rattle.journal.specs.Journal.{cut, turn, ok}
 use Rattle.journal.specs.Calls.{Call, load, change, list, runSheet}
-
--- "NIKON D600"
-abbrev model : List ℕ
-model = 78 ∷ 73 ∷ 75 ∷ 79 ∷ 78 ∷ 32 ∷ 68 ∷ 54 ∷ 48 ∷ 48 ∷ []
 
 -- a directory of one entry, 00B7, of 30 bytes: version 0100, layout code 3, primary 1, marked 1 and 16. The cut drops 16
 abbrev block : List ℕ
@@ -22,7 +19,7 @@ block =
     0 ∷ 0 ∷ 0 ∷ 0 ∷ []
 
 abbrev pub wholeCase : List Call
-wholeCase = load block Missing Missing model ∷ change turn ∷ change (cut 1900 2900 400 400) ∷ list (replicate 7 9) ∷ []
+wholeCase = load block Missing Missing d600 ∷ change turn ∷ change (cut 1900 2900 400 400) ∷ list (replicate 7 9) ∷ []
 
 -- "ok ok ok, frame 400 400 points 1 primary 0 mode 1 origin 2, 1 109 108 164 164 0"; the seventh place of the buffer is kept
 abbrev pub WholeCase : Type 0

@@ -8,12 +8,11 @@ use Rattle.reading.specs.declared.geometry.Size.{Size}
 use Rattle.reading.specs.declared.geometry.Point.{Point}
 use Rattle.fitting.specs.declared.focus.FocusPoint.{FocusPoint}
 use Rattle.fitting.specs.Fit.{pointFits}
+use Rattle.fitting.specs.Laws.{swapped}
+use Rattle.placing.specs.Points.{by}
 use Rattle.sheet.specs.declared.edit.Edit.{Edit}
 use Rattle.sheet.specs.declared.edit.Edit.the-variants.{Turn, Mirror, Cut}
 use Rattle.sheet.specs.declared.edit.Placed.{Placed}
-
-abbrev pub size : ℕ → ℕ → Size
-size w h = record { width = w; height = h }
 
 abbrev pub point : ℕ → ℕ → Point
 point x y = record { x = x; y = y }
@@ -21,10 +20,6 @@ point x y = record { x = x; y = y }
 -- a point with another center and another size: "number and in-focus unchanged"
 abbrev pub movedTo : FocusPoint → Point → Size → FocusPoint
 movedTo p c a = record { number = p .number; center = c; size = a; «in_focus» = p .«in_focus» }
-
--- a frame or an area that "swap sides"
-abbrev pub swapped : Size → Size
-swapped s = size (s .height) (s .width)
 
 -- "In a frame w by h, .. turned clockwise: (x, y) goes to (h − y, x), frame and areas swap sides."
 abbrev pub turnedPoint : Size → FocusPoint → FocusPoint
@@ -41,7 +36,7 @@ shiftedPoint l t p = movedTo p (point (p .center .x - l) (p .center .y - t)) (p 
 -- "drops the points that don't fit": a point stays if no moved coordinate is below 0 and it fits the cut's frame
 unfoldable pub staysOn : ℕ → ℕ → ℕ → ℕ → FocusPoint → Bool
 staysOn l t w h p =
-    leb l (p .center .x) && (leb t (p .center .y) && pointFits (size w h) (shiftedPoint l t p))
+    leb l (p .center .x) && (leb t (p .center .y) && pointFits (by w h) (shiftedPoint l t p))
 
 -- "makes width by height the frame, and drops the points that don't fit; they stay unlisted as long as that cut stands"
 unfoldable pub cutPoint : ℕ → ℕ → ℕ → ℕ → Placed → Placed
@@ -49,7 +44,7 @@ cutPoint l t w h q =
     record {
       listed = q .listed && staysOn l t w h (q .point);
       point = shiftedPoint l t (q .point);
-      frame = size w h;
+      frame = by w h;
     }
 
 -- a point and its frame, moved by one edit

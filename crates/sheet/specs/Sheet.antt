@@ -20,7 +20,8 @@ use Rattle.sheet.specs.declared.EditAnswer.{EditAnswer}
 use Rattle.sheet.specs.declared.EditAnswer.the-variants.{Accepted, Empty, Full, BadCut, DropsPrimary, NothingStands}
 use Rattle.sheet.specs.declared.Edited.{Edited}
 use Rattle.sheet.specs.declared.Loaded.{Loaded}
-use Rattle.sheet.specs.Place.{size, wordsOf, moved, placed}
+use Rattle.placing.specs.Points.{by}
+use Rattle.sheet.specs.Place.{wordsOf, moved, placed}
 
 -- 01's number for each way in which an edit or back ends, 0 for accepted
 unfoldable pub editNumber : EditAnswer → ℕ
@@ -47,7 +48,7 @@ unfoldable pub freshSheet : Sheet
 freshSheet =
     record {
       loaded = false;
-      frame = size 0 0;
+      frame = by 0 0;
       points = replicate 39 noPoint;
       count = 0;
       primary = 0;

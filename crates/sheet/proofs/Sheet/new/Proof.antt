@@ -8,7 +8,7 @@ use Rattle.fitting.specs.declared.focus.FocusPoint.{FocusPoint}
 use Rattle.placing.specs.declared.focus.FocusOrigin.the-variants.{Recorded}
 use Rattle.placing.specs.Load.{noPoint}
 use Rattle.sheet.specs.declared.Sheet.{Sheet}
-use Rattle.sheet.specs.Place.{size}
+use Rattle.placing.specs.Points.{by}
 use Rattle.sheet.specs.Sheet.{freshSheet}
 use borrow.Author.Needs.{needs}
 use Rattle.sheet.proofs.Sheet.new.Statement.{statement}
@@ -17,7 +17,7 @@ use Rattle.sheet.proofs.Sheet.new.Tie as tie
 fresh : (ps : List FocusPoint) → ps ≡ replicate 39 noPoint
     → _≡_ {A = Sheet} (record {
       loaded = false;
-      frame = size 0 0;
+      frame = by 0 0;
       points = ps;
       count = 0;
       primary = 0;

@@ -4,13 +4,14 @@ use mathlib.Core.Bool.{Bool, _&&_}
 use Prim.Native.Nat.{ℕ}
 use Rattle.fitting.specs.declared.focus.FocusPoint.{FocusPoint}
 use Rattle.sheet.specs.declared.edit.Placed.{Placed}
-use Rattle.sheet.specs.Place.{size, shiftedPoint, staysOn, cutPoint}
+use Rattle.placing.specs.Points.{by}
+use Rattle.sheet.specs.Place.{shiftedPoint, staysOn, cutPoint}
 use borrow.Author.Needs.{needs}
 use Rattle.sheet.proofs.edit.cut_point.Statement.{statement}
 use Rattle.sheet.proofs.edit.cut_point.Tie as tie
 
 cut-to : (l t w h : ℕ) (q : Placed) (b : Bool) → b ≡ staysOn l t w h (q .point) → (p : FocusPoint)
-    → p ≡ shiftedPoint l t (q .point) → _≡_ {A = Placed} (record { listed = q .listed && b; point = p; frame = size w h }) (cutPoint l t w h q)
+    → p ≡ shiftedPoint l t (q .point) → _≡_ {A = Placed} (record { listed = q .listed && b; point = p; frame = by w h }) (cutPoint l t w h q)
 unfolding cutPoint
 cut-to l t w h q b e p g = rw (e, g)
 

@@ -5,7 +5,8 @@ use Rattle.fitting.specs.declared.focus.FocusPoint.{FocusPoint}
 use Rattle.sheet.specs.declared.edit.Edit.{Edit}
 use Rattle.sheet.specs.declared.edit.Edit.the-variants.{Turn, Mirror, Cut}
 use Rattle.sheet.specs.declared.edit.Placed.{Placed}
-use Rattle.sheet.specs.Place.{swapped, turnedPoint, mirroredPoint, cutPoint, moved}
+use Rattle.fitting.specs.Laws.{swapped}
+use Rattle.sheet.specs.Place.{turnedPoint, mirroredPoint, cutPoint, moved}
 use borrow.Author.Needs.{needs}
 use Rattle.sheet.proofs.edit.move_by.Statement.{statement}
 use Rattle.sheet.proofs.edit.move_by.Tie as tie

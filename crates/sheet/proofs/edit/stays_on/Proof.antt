@@ -5,7 +5,8 @@ use Prim.Native.Nat.{ℕ, _<_, _≤_}
 use borrow.Author.Tests.{le-leb, lt-leb}
 use Rattle.fitting.specs.declared.focus.FocusPoint.{FocusPoint}
 use Rattle.fitting.specs.Fit.{pointFits}
-use Rattle.sheet.specs.Place.{size, shiftedPoint, staysOn}
+use Rattle.placing.specs.Points.{by}
+use Rattle.sheet.specs.Place.{shiftedPoint, staysOn}
 use borrow.Author.Needs.{needs}
 use Rattle.sheet.proofs.edit.stays_on.Statement.{statement}
 use Rattle.sheet.proofs.edit.stays_on.Tie as tie
@@ -20,7 +21,7 @@ module _ (l t w h : ℕ) (p : FocusPoint) where
     unfolding staysOn
     above b = rw (le-leb l (p .center .x) a, lt-leb t (p .center .y) b)
 
-    within : t ≤ p .center .y → (q : FocusPoint) → q ≡ shiftedPoint l t p → (r : Bool) → r ≡ pointFits (size w h) q
+    within : t ≤ p .center .y → (q : FocusPoint) → q ≡ shiftedPoint l t p → (r : Bool) → r ≡ pointFits (by w h) q
         → r ≡ staysOn l t w h p
     unfolding staysOn
     within b q e r g = rw (le-leb l (p .center .x) a, le-leb t (p .center .y) b, ← e) g

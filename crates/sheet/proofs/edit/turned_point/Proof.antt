@@ -3,7 +3,8 @@ use mathlib.Core.Path.{_≡_}
 use Prim.Native.Nat.{ℕ, _-_}
 use Rattle.reading.specs.declared.geometry.Size.{Size}
 use Rattle.fitting.specs.declared.focus.FocusPoint.{FocusPoint}
-use Rattle.sheet.specs.Place.{point, swapped, movedTo, turnedPoint}
+use Rattle.fitting.specs.Laws.{swapped}
+use Rattle.sheet.specs.Place.{point, movedTo, turnedPoint}
 use borrow.Author.Needs.{needs}
 use Rattle.sheet.proofs.edit.turned_point.Statement.{statement}
 use Rattle.sheet.proofs.edit.turned_point.Tie as tie
