@@ -15,11 +15,13 @@ use Rattle.reading.specs.declared.nikon.CropArea.{CropArea}
 use Rattle.reading.specs.declared.nikon.FocusRecord.{FocusRecord}
 use Rattle.fitting.specs.declared.focus.FocusPoint.{FocusPoint}
 use Rattle.fitting.specs.Fit.{hasZeroSide}
-use Rattle.placing.specs.Load.{Focus}
+use Rattle.placing.specs.Load.{Focus, refusalNumber}
 use Rattle.placing.specs.Sound.{Sound}
 use Rattle.placing.specs.Recorded.{Placement, positionOf}
-use Rattle.placing.specs.Named.{namedOutcome}
+use Rattle.placing.specs.Named.{placedIn, namedOutcome}
 use Rattle.placing.specs.declared.focus.FocusOrigin.the-variants.{Recorded}
+use Rattle.placing.specs.declared.focus.Located.{Located}
+use Rattle.placing.specs.declared.focus.Located.the-variants.{Refused, Position, Names}
 
 -- an accepted value is handed on, a refusal stays
 abbrev pub andThen : {A B : Type 0} → Outcome A → (A → Outcome B) → Outcome B
@@ -43,6 +45,12 @@ recordsPosition r = not (hasZeroSide (r .frame)) && not (hasZeroSide (r .area))
 -- one point, the primary, as recorded
 abbrev pub alone : Size → FocusPoint → FocusAreaMode → Outcome Focus
 alone f p m = accepted (record { frame = f; points = p ∷ []; primary = 0; mode = m; origin = Recorded })
+
+-- what the code's answer means in 01's numbers
+abbrev pub locatedMeans : Located → Outcome Focus
+locatedMeans (Refused why) = refused (refusalNumber why)
+locatedMeans (Position f p m) = alone f p m
+locatedMeans (Names w primary mask m) = placedIn (accepted w) primary mask m
 
 -- "recorded position cannot be placed": 5; "no recorded position and named points cannot be placed": 6
 unfoldable pub placedOf : FocusRecord → Crop → CropArea → OptionalSize → List ℕ → Outcome Focus

@@ -1,4 +1,5 @@
 // The points of one load, or why there are none.
+use crate::named::Window;
 use fitting::focus::FocusPoint;
 use reading::focus::FocusAreaMode;
 use reading::focus::InFocus;
@@ -28,6 +29,23 @@ pub enum Refusal {
 pub enum FocusAnswer {
     Placed,
     Refused(Refusal),
+}
+
+// Where the points of a load are: nowhere, as it is refused; one recorded position in its frame; or the points that a
+// primary and a mask name in a window of the table's frame.
+pub enum Located {
+    Refused(Refusal),
+    Position {
+        frame: Size,
+        point: FocusPoint,
+        mode: FocusAreaMode,
+    },
+    Names {
+        window: Window,
+        primary: u32,
+        mask: u64,
+        mode: FocusAreaMode,
+    },
 }
 
 // The points of one load in their frame, of which the first `count` places hold one each and `primary` is the index of

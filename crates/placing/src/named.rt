@@ -2,6 +2,7 @@
 use crate::focus::FocusAnswer;
 use crate::focus::FocusOrigin;
 use crate::focus::FocusPoints;
+use crate::focus::Located;
 use crate::focus::Refusal;
 use crate::points::TablePoint;
 use fitting::focus::FocusPoint;
@@ -17,6 +18,7 @@ ghost use mathlib.Core.Path.{_≡_};
 ghost use Prim.Native.Nat.{_≤_, _<_};
 ghost use lib.ListN.{take};
 ghost use Rattle.placing.specs.Load.{laidOut};
+ghost use Rattle.placing.specs.Focus.{locatedMeans};
 ghost use Rattle.placing.specs.Named.{samePlace, pictureIs, onCrop, uncropped, frameMeans, placedFrame, marked, isNamed, fitsWindow, lessOrigin, isListed, ifListed, listed, listingOf, indexOf, placedIn, namedOutcome};
 ghost use Rattle.tiff.specs.Outcome.{accepted};
 
@@ -238,8 +240,8 @@ fn index_of(points: [FocusPoint; 39], count: usize, number: u32) -> usize
     i
 }
 
-// The points named, in their window, with the primary's index among them.
-fn placed_in(window: Window, primary: u32, mask: u64, area_mode: FocusAreaMode) -> FocusPoints
+// The points named, in their window, with the primary's index among them. Refused where the primary is not listed.
+pub fn placed_in(window: Window, primary: u32, mask: u64, area_mode: FocusAreaMode) -> FocusPoints
     ensures { λ r. ⌜ r ≡ laidOut (placedIn (accepted window) primary mask «area_mode») ⌝ }
 {
     let listing = listed_points(window, primary, mask);
@@ -261,16 +263,16 @@ fn placed_in(window: Window, primary: u32, mask: u64, area_mode: FocusAreaMode) 
     }
 }
 
-// The points that a record with no position names, placed from the table of the model's points. Refused where it names none, where
-// the model or the layout code is not the table's, where the crop is not confirmed, and where the primary is not listed.
-pub fn placed(
+// Where the points are that a record with no position names, from the table of the model's points. Refused where it names none, where
+// the model or the layout code is not the table's, and where the crop is not confirmed.
+pub fn located(
     named: NamedPoints,
     model: &[u8],
     crop: Crop,
     picture: OptionalSize,
     area_mode: FocusAreaMode,
-) -> FocusPoints
-    ensures { λ r. ⌜ r ≡ laidOut (namedOutcome named (now (model .entry)) crop picture «area_mode») ⌝ }
+) -> Located
+    ensures { λ r. ⌜ locatedMeans r ≡ namedOutcome named (now (model .entry)) crop picture «area_mode» ⌝ }
 {
     match named {
         NamedPoints::Named {
@@ -279,21 +281,21 @@ pub fn placed(
             mask,
         } => {
             if !crate::points::has_table(model) {
-                return crate::focus::no_points(Refusal::Unnamed);
+                return Located::Refused(Refusal::Unnamed);
             }
             if layout_code != crate::points::LAYOUT_CODE {
-                return crate::focus::no_points(Refusal::Unnamed);
+                return Located::Refused(Refusal::Unnamed);
             }
             match placed_frame(crop, picture) {
-                PlacedFrame::Confirmed(window) => placed_in(
+                PlacedFrame::Confirmed(window) => Located::Names {
                     window,
-                    primary as u32,
+                    primary: primary as u32,
                     mask,
-                    area_mode,
-                ),
-                PlacedFrame::Unconfirmed => crate::focus::no_points(Refusal::Unnamed),
+                    mode: area_mode,
+                },
+                PlacedFrame::Unconfirmed => Located::Refused(Refusal::Unnamed),
             }
         }
-        NamedPoints::Unnamed => crate::focus::no_points(Refusal::Unnamed),
+        NamedPoints::Unnamed => Located::Refused(Refusal::Unnamed),
     }
 }

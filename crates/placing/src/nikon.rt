@@ -2,6 +2,7 @@
 use crate::focus::FocusAnswer;
 use crate::focus::FocusOrigin;
 use crate::focus::FocusPoints;
+use crate::focus::Located;
 use crate::focus::Refusal;
 use crate::recorded::Position;
 use fitting::focus::FocusPoint;
@@ -16,7 +17,7 @@ use tiff::ifd::Block;
 use tiff::io::ByteOrder;
 ghost use mathlib.Core.Path.{_≡_};
 ghost use Rattle.placing.specs.Load.{laidOut};
-ghost use Rattle.placing.specs.Focus.{pointOf, recordsPosition, alone, placedOf, focusIn, focusOf};
+ghost use Rattle.placing.specs.Focus.{pointOf, recordsPosition, alone, locatedMeans, placedOf, focusIn, focusOf};
 
 // The point that a record's position is.
 fn point_of(recorded: FocusRecord) -> FocusPoint
@@ -62,57 +63,71 @@ fn alone_in(frame: Size, point: FocusPoint, mode: FocusAreaMode) -> FocusPoints
     }
 }
 
-// The points of a record: its position, or else the points that it names.
-fn placed_record(
+// Where the points of a record are: at its position, or else at the points that it names.
+fn located_record(
     recorded: FocusRecord,
     crop: Crop,
     area: CropArea,
     picture: OptionalSize,
     model: &[u8],
-) -> FocusPoints
-    ensures { λ r. ⌜ r ≡ laidOut (placedOf recorded crop area picture (now (model .entry))) ⌝ }
+) -> Located
+    ensures { λ r. ⌜ locatedMeans r ≡ placedOf recorded crop area picture (now (model .entry)) ⌝ }
 {
-    let area_mode = recorded.area_mode;
+    let mode = recorded.area_mode;
     if !records_position(recorded) {
         let named = recorded.named;
-        return crate::named::placed(named, model, crop, picture, area_mode);
+        return crate::named::located(named, model, crop, picture, mode);
     }
     let frame = recorded.frame;
     match crate::recorded::in_crop(point_of(recorded), frame, crop, area, picture) {
         Position::Placed {
             frame: place,
             point,
-        } => alone_in(place, point, area_mode),
-        Position::Unplaced => crate::focus::no_points(Refusal::Unplaced),
+        } => Located::Position {
+            frame: place,
+            point,
+            mode,
+        },
+        Position::Unplaced => Located::Refused(Refusal::Unplaced),
     }
 }
 
-// One load of a block that can be read.
-fn focus_in(
+// Where the points are of a block that can be read.
+fn located_in(
     block: &[u8],
     order: ByteOrder,
     raw: OptionalSize,
     picture: OptionalSize,
     model: &[u8],
-) -> FocusPoints
-    ensures { λ r. ⌜ r ≡ laidOut (focusIn order (now (block .entry)) raw picture (now (model .entry))) ⌝ }
+) -> Located
+    ensures { λ r. ⌜ locatedMeans r ≡ focusIn order (now (block .entry)) raw picture (now (model .entry)) ⌝ }
 {
     match reading::nikon::af_info2(block, order) {
-        AfInfo2::Missing => crate::focus::no_points(Refusal::Missing),
+        AfInfo2::Missing => Located::Refused(Refusal::Missing),
         AfInfo2::Unusable => {
             if reading::nikon::manual_focus(block, order) {
-                return crate::focus::no_points(Refusal::Manual);
+                return Located::Refused(Refusal::Manual);
             }
-            crate::focus::no_points(Refusal::Unusable)
+            Located::Refused(Refusal::Unusable)
         }
         AfInfo2::Recorded(recorded) => {
             if reading::nikon::manual_focus(block, order) {
-                return crate::focus::no_points(Refusal::Manual);
+                return Located::Refused(Refusal::Manual);
             }
             let crop = reading::nikon::crop_hi_speed(block, order);
             let area = reading::nikon::crop_area(block, order, raw);
-            placed_record(recorded, crop, area, picture, model)
+            located_record(recorded, crop, area, picture, model)
         }
+    }
+}
+
+// Where the points of a load are.
+fn located(block: &[u8], raw: OptionalSize, picture: OptionalSize, model: &[u8]) -> Located
+    ensures { λ r. ⌜ locatedMeans r ≡ focusOf (now (block .entry)) raw picture (now (model .entry)) ⌝ }
+{
+    match tiff::ifd::parse_block(block) {
+        Block::Readable(order) => located_in(block, order, raw, picture, model),
+        Block::Unreadable => Located::Refused(Refusal::Unreadable),
     }
 }
 
@@ -120,8 +135,14 @@ fn focus_in(
 pub fn focus(block: &[u8], raw: OptionalSize, picture: OptionalSize, model: &[u8]) -> FocusPoints
     ensures { λ r. ⌜ r ≡ laidOut (focusOf (now (block .entry)) raw picture (now (model .entry))) ⌝ }
 {
-    match tiff::ifd::parse_block(block) {
-        Block::Readable(order) => focus_in(block, order, raw, picture, model),
-        Block::Unreadable => crate::focus::no_points(Refusal::Unreadable),
+    match located(block, raw, picture, model) {
+        Located::Refused(why) => crate::focus::no_points(why),
+        Located::Position { frame, point, mode } => alone_in(frame, point, mode),
+        Located::Names {
+            window,
+            primary,
+            mask,
+            mode,
+        } => crate::named::placed_in(window, primary, mask, mode),
     }
 }

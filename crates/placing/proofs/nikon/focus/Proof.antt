@@ -1,60 +1,93 @@
--- `nikon::focus`: by whether the block can be read. Assumes nothing.
-use mathlib.Core.Path.{_≡_, _∙_, ap}
-use mathlib.Core.List.{List}
+-- `nikon::focus`: the 39 places of each answer of `located`. Assumes nothing.
+use mathlib.Core.Path.{_≡_, refl}
 use Prim.Native.Nat.{ℕ}
-use denote.Ref.{now}
-use Rattle.tiff.specs.Outcome.{refused}
-use Rattle.tiff.specs.Block.{blockOf, blockMeans}
-use Rattle.tiff.specs.declared.io.ByteOrder.{ByteOrder}
-use Rattle.reading.specs.declared.geometry.OptionalSize.{OptionalSize}
-use Rattle.tiff.specs.declared.ifd.Block.{Block}
-use Rattle.tiff.specs.declared.ifd.Block.the-variants.{Unreadable, Readable}
-use Rattle.placing.specs.Load.{laidOut, refusedBy, refusalOf}
-use Rattle.placing.specs.Focus.{focusOf, focusIn}
+use Rattle.tiff.specs.Outcome.{Outcome, accepted}
+use Rattle.reading.specs.declared.geometry.Size.{Size}
+use Rattle.reading.specs.declared.focus.FocusAreaMode.{FocusAreaMode}
+use Rattle.fitting.specs.declared.focus.FocusPoint.{FocusPoint}
+use Rattle.placing.specs.Load.{Focus, laidOut, refusedBy, refusalNumber, refusalOf}
+use Rattle.placing.specs.Named.{placedIn}
+use Rattle.placing.specs.Focus.{alone, locatedMeans}
 use Rattle.placing.specs.declared.focus.FocusPoints.{FocusPoints}
-use Rattle.placing.specs.declared.focus.Refusal.the-variants as why
+use Rattle.placing.specs.declared.focus.Refusal.{Refusal}
+use Rattle.placing.specs.declared.focus.Refusal.the-variants.{Unreadable, Missing, Manual, Unusable, Unplaced, Unnamed}
+use Rattle.placing.specs.declared.focus.Located.{Located}
+use Rattle.placing.specs.declared.focus.Located.the-variants.{Refused, Position, Names}
+use Rattle.placing.specs.declared.named.Window.{Window}
+-- a refusal is the one that has its number
+use borrow.Author.Needs.{needs}
 use borrow.Author.Needs.{needs}
 use Rattle.placing.proofs.nikon.focus.Statement.{statement}
 use Rattle.placing.proofs.nikon.focus.Tie as tie
 
-module _ (s : List ℕ) (raw t : OptionalSize) (m : List ℕ) (x : Block) (ex : blockMeans x ≡ blockOf s) where
-  readable : (o : ByteOrder) → x ≡ Readable o → focusIn o s raw t m ≡ focusOf s raw t m
-  unfolding focusOf
-  readable o e = rw (← ex, e)
+of-number : (why : Refusal) → refusalOf (refusalNumber why) ≡ why
+unfolding refusalOf refusalNumber
+of-number Unreadable = refl
+of-number Missing = refl
+of-number Manual = refl
+of-number Unusable = refl
+of-number Unplaced = refl
+of-number Unnamed = refl
 
-  unreadable : (v : FocusPoints) → x ≡ Unreadable → v ≡ refusedBy why.Unreadable → v ≡ laidOut (focusOf s raw t m)
-  unfolding focusOf laidOut refusalOf
-  unreadable v e ev = rw (← ex, e) ev
+module _ (o : Outcome Focus) (x : Located) (ex : locatedMeans x ≡ o) (v : FocusPoints) where
+  nowhere : (why : Refusal) → x ≡ Refused why → v ≡ refusedBy why → v ≡ laidOut o
+  unfolding laidOut
+  nowhere why e ev = rw (← ex, e, of-number why) ev
 
-parse-block-requires : tie.Need-parse-block-requires
-parse-block-requires c κs = search needs
+  position : (f : Size) (p : FocusPoint) (m : FocusAreaMode) → x ≡ Position f p m → v ≡ laidOut (alone f p m) → v ≡ laidOut o
+  position f p m e ev = rw (← ex, e) ev
 
-enum-known-order : tie.Need-enum-known-order
-enum-known-order c = search needs
+  names : (w : Window) (primary mask : ℕ) (m : FocusAreaMode) → x ≡ Names w primary mask m →
+      v ≡ laidOut (placedIn (accepted w) primary mask m) → v ≡ laidOut o
+  names w primary mask m e ev = rw (← ex, e) ev
 
-focus-in-requires : tie.Need-focus-in-requires
-focus-in-requires c κs = search needs
+located-requires : tie.Need-located-requires
+located-requires c κs = search needs
 
-enum-told : tie.Need-enum-told
-enum-told c = search needs
+enum-known-why : tie.Need-enum-known-why
+enum-known-why c = search needs
 
 no-points-requires : tie.Need-no-points-requires
 no-points-requires c κs = search needs
 
+enum-known-frame : tie.Need-enum-known-frame
+enum-known-frame c = search needs
+
+alone-in-requires : tie.Need-alone-in-requires
+alone-in-requires c κs = search needs
+
+enum-known-window : tie.Need-enum-known-window
+enum-known-window c = search needs
+
+placed-in-requires : tie.Need-placed-in-requires
+placed-in-requires c κs = search needs
+
 returns : tie.Need-returns
-returns c = (c .focus-in .ensures) ∙ ap laidOut (readable (now (c .before .before .before .before .before .before .before .args .block)) (c .before .before .before .before .before .before .before .args .raw) (c .before .before .before .before .before .before .before .args .picture) (now (c .before .before .before .before .before .before .before .args .model)) _ (c .before .before .before .before .parse-block .ensures) _ (c .before .before .order .given .1))
+returns c =
+    nowhere _ _ (c .before .before .before .before .located .ensures) _ _ (c .before .before .why .given .1)
+    (c .no-points .ensures)
 
 returns-2 : tie.Need-returns-2
-returns-2 c = unreadable (now (c .before .before .before .before .before .before .args .block)) (c .before .before .before .before .before .before .args .raw) (c .before .before .before .before .before .before .args .picture) (now (c .before .before .before .before .before .before .args .model)) _ (c .before .before .before .parse-block .ensures) _ (c .before .enum-told .given .1) (c .no-points .ensures)
+returns-2 c =
+    position _ _ (c .before .before .before .before .located .ensures) _ _ _ _ (c .before .before .frame .given .1)
+    (c .alone-in .ensures)
+
+returns-3 : tie.Need-returns-3
+returns-3 c =
+    names _ _ (c .before .before .before .before .located .ensures) _ _ _ _ _ (c .before .before .window .given .1)
+    (c .placed-in .ensures)
 
 pub focus-spec : {M : Type 1} → statement M
 focus-spec =
     tie.close
     (tie.spec
-    parse-block-requires
-    enum-known-order
-    focus-in-requires
-    enum-told
+    located-requires
+    enum-known-why
     no-points-requires
+    enum-known-frame
+    alone-in-requires
+    enum-known-window
+    placed-in-requires
     returns
-    returns-2)
+    returns-2
+    returns-3)
