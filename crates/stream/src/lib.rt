@@ -4,7 +4,7 @@ use sheet::Sheet;
 ghost use mathlib.Core.Path.{_≡_};
 ghost use lib.Dec.{leb};
 ghost use lib.ListN.{length, take};
-ghost use Prim.Native.Nat.{_+_, _≤_, min};
+ghost use Prim.Native.Nat.{_+_, _≤_};
 ghost use Rattle.text.specs.Put.{Put};
 ghost use Rattle.session.specs.Lines.{mostText};
 ghost use Rattle.stream.specs.Stream.{kept, lastText, Runs, Lines, Feeds};
@@ -24,13 +24,6 @@ pub struct Fed {
 struct Run {
     held: usize,
     used: usize,
-}
-
-// The smaller of two numbers.
-fn least(a: usize, b: usize) -> usize
-    ensures { λ r. ⌜ r ≡ min a b ⌝ }
-{
-    if a < b { a } else { b }
 }
 
 // Tells whether any answer fits into a buffer from a place on.
@@ -150,7 +143,7 @@ pub fn feed(
 ) -> Fed
     ensures { λ r. ⌜ Feeds sheet (now (line .entry)) held (now (input .entry)) (now (out .entry)) at (now (out .exit)) (now (line .exit)) r ⌝ }
 {
-    let n = least(held, line.len());
+    let n = text::smaller(held, line.len());
     feed_lines(sheet, line, n, input, out, at)
 }
 
@@ -159,7 +152,7 @@ pub fn last(sheet: Sheet, line: &[u8], held: usize, out: &mut [u8], at: usize) -
     ensures { λ r. ⌜ Put (now (out .entry)) at (lastText sheet (take held (now (line .entry)))) (now (out .exit)) r ⌝ }
     ensures { λ r. ⌜ length (lastText sheet (take held (now (line .entry)))) ≤ mostText ⌝ }
 {
-    let n = least(held, line.len());
+    let n = text::smaller(held, line.len());
     if n == 0 {
         return at;
     }

@@ -112,7 +112,7 @@ fn put_point(out: &mut [u8], at: usize, words: &[u32], i: usize) -> usize
 }
 
 // The smaller of two counts.
-fn smaller(a: usize, b: usize) -> usize
+pub fn smaller(a: usize, b: usize) -> usize
     ensures { λ r. ⌜ r ≡ min a b ⌝ }
 {
     if a < b { a } else { b }
