@@ -52,8 +52,8 @@ impl<'a> Note<'a> {
     }
 }
 
-// The record of a block of that order, through its note.
-fn record_of(block: &[u8], order: ByteOrder) -> AfInfo2
+// The record of a block of that order, through its note: callers give a plain slice and an order.
+pub fn record_of(block: &[u8], order: ByteOrder) -> AfInfo2
     ensures { λ r. ⌜ recordMeans r ≡ afInfo2Of order (now (block .entry)) ⌝ }
 {
     Note::new(block, order).record()
@@ -65,7 +65,7 @@ pub enum NoteRecord {
     Read(AfInfo2),
 }
 
-// The record of a block: callers give a plain slice, and need no note.
+// The record of a block, in the order that its header gives.
 pub fn record_in(block: &[u8]) -> NoteRecord
     ensures { λ r. ⌜ noteMeans r ≡ noteOf (now (block .entry)) ⌝ }
 {

@@ -102,7 +102,7 @@ fn located_in(
 ) -> Located
     ensures { λ r. ⌜ locatedMeans r ≡ focusIn order (now (block .entry)) raw picture (now (model .entry)) ⌝ }
 {
-    match reading::nikon::af_info2(block, order) {
+    match note::record_of(block, order) {
         AfInfo2::Missing => Located::Refused(Refusal::Missing),
         AfInfo2::Unusable => {
             if reading::nikon::manual_focus(block, order) {

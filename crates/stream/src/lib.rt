@@ -3,7 +3,7 @@
 use sheet::Sheet;
 ghost use mathlib.Core.Path.{_≡_};
 ghost use lib.Dec.{leb};
-ghost use lib.ListN.{length, take};
+ghost use lib.ListN.{length, take, set};
 ghost use Prim.Native.Nat.{_+_, _≤_};
 ghost use Rattle.text.specs.Put.{Put};
 ghost use Rattle.session.specs.Lines.{mostText};
@@ -39,7 +39,7 @@ fn has_room(len: usize, at: usize) -> bool
 // Holds one more character of a line, if there is room for it.
 fn keep(line: &mut [u8], held: usize, b: u8) -> usize
     requires { ⌜ held ≤ length (now line) ⌝ }
-    ensures { λ r. ⌜ (take r (now (line .exit)) ≡ kept (length (now (line .entry))) (take held (now (line .entry))) b) × (r ≤ length (now (line .entry))) ⌝ }
+    ensures { λ r. ⌜ (take r (now (line .exit)) ≡ kept (length (now (line .entry))) (take held (now (line .entry))) b) × (now (line .exit) ≡ set (now (line .entry)) held b) × (r ≤ length (now (line .entry))) ⌝ }
 {
     if held >= line.len() {
         return held;

@@ -1,3 +1,4 @@
+-- `flush`: the first bytes of a buffer are a slice of it. Assumes nothing.
 use mathlib.Core.Path.{sym}
 use lib.Seq.{length-take-le}
 use borrow.Author.Needs.{needs}

@@ -1,3 +1,4 @@
+-- `main`: turn by turn, the sheet and the held line are those after all that came (`Running`), and the turns run out. Assumes nothing.
 use Rattle.focusdesk.proofs.Laws as laws
 use Rattle.focusdesk.proofs.Laws.{Running}
 use native.Mathlib.Omega.{arith}

@@ -1,3 +1,4 @@
+-- `serve`: feeding again and again takes the part from its start on (`Serving`), all of it or up to a write that fails. Assumes nothing.
 use Rattle.focusdesk.proofs.Laws as laws
 use Rattle.focusdesk.proofs.Laws.{Serving}
 use Rattle.text.proofs.Laws as text

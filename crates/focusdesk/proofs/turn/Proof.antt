@@ -1,3 +1,4 @@
+-- `turn`: what came is served; nothing came where the read failed or the input has ended. Assumes nothing.
 use Rattle.focusdesk.proofs.Laws as laws
 use borrow.Author.Needs.{needs}
 use Rattle.focusdesk.proofs.turn.Statement.{statement}

@@ -1,3 +1,4 @@
+-- `feed_line`: a run of characters, and where a feed ends it one step of the sheet. Assumes nothing.
 use Rattle.stream.proofs.Laws as laws
 use native.Mathlib.Omega.{arith}
 use borrow.Author.Needs.{needs}

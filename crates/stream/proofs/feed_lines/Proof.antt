@@ -1,3 +1,5 @@
+-- `feed_lines`: line by line, i characters are used and the rest is to be used as from the start (`Goes`), until there is no room for an
+-- answer or the piece has ended. Assumes nothing.
 use Rattle.stream.proofs.Laws as laws
 use Rattle.text.proofs.Laws as text
 use native.Mathlib.Omega.{arith}

@@ -1,3 +1,4 @@
+-- `has_room`: the longest answer fits between the place and the buffer's end, or the place lies past it. Assumes nothing.
 use Rattle.stream.proofs.Laws as laws
 use Rattle.stream.proofs.has_room.Statement.{statement}
 use Rattle.stream.proofs.has_room.Tie as tie

@@ -1,3 +1,4 @@
+-- `take_run`: characters that are no feed are held one by one (`Quiet`), up to a feed or the piece's end. Assumes nothing.
 use Rattle.stream.proofs.Laws as laws
 use native.Mathlib.Omega.{arith}
 use Prim.Native.Nat.{_≤_, _-_}
@@ -34,7 +35,7 @@ loop-less : tie.Need-loop-less Inv-loop μ-loop
 loop-less c = omega arith
 
 loop-again : tie.Need-loop-again Inv-loop μ-loop
-loop-again c = (omega arith, laws.quiet-more _ _ (c .before .before .before .before .before .before .loop-test .taken) (c .before .before .before .before .if1 .left) ((c .before .before .before .before .before .before .before .loop .inv .1)) ((c .before .before .keep .ensures .0)) ((c .before .before .keep .ensures .1)) ((c .before .before .keep .kept .0)))
+loop-again c = (omega arith, laws.quiet-more _ _ (c .before .before .before .before .before .before .loop-test .taken) (c .before .before .before .before .if1 .left) ((c .before .before .before .before .before .before .before .loop .inv .1)) ((c .before .before .keep .ensures .0)) ((c .before .before .keep .ensures .1)) ((c .before .before .keep .ensures .2)))
 
 same-length-2 : tie.Need-same-length-2 Inv-loop μ-loop
 same-length-2 c = (c .before .loop .inv .1 .long)
