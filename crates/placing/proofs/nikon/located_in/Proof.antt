@@ -52,8 +52,8 @@ module _ (o : ByteOrder) (s : List ℕ) (raw t : OptionalSize) (m : List ℕ) (x
       unfolding focusIn
       recorded h c ec a ea v ev = rw (← ex, e, ← eb, h, ← ec, ← ea) ev
 
-af-info2-requires : tie.Need-af-info2-requires
-af-info2-requires c κs = search needs
+record-of-requires : tie.Need-record-of-requires
+record-of-requires c κs = search needs
 
 enum-told : tie.Need-enum-told
 enum-told c = search needs
@@ -68,7 +68,7 @@ returns : tie.Need-returns
 returns c =
     let a = c .before .before .before .before .before .before .before .args in
     unusable-manual (a .order) (now (a .block)) (a .raw) (a .picture) (now (a .model)) _
-    (c .before .before .before .before .af-info2 .ensures) _ (c .before .manual-focus .ensures)
+    (c .before .before .before .before .record-of .ensures) _ (c .before .manual-focus .ensures)
     (c .before .before .enum-told2 .given .1) (c .if1 .taken)
 
 enum-known-recorded : tie.Need-enum-known-recorded
@@ -81,7 +81,7 @@ returns-2 : tie.Need-returns-2
 returns-2 c =
     let a = c .before .before .before .before .before .before .before .before .args in
     manual (a .order) (now (a .block)) (a .raw) (a .picture) (now (a .model)) _
-    (c .before .before .before .before .before .af-info2 .ensures) _ (c .before .manual-focus2 .ensures) _
+    (c .before .before .before .before .before .record-of .ensures) _ (c .before .manual-focus2 .ensures) _
     (c .before .before .before .recorded .given .1) (c .if2 .taken)
 
 crop-hi-speed-requires : tie.Need-crop-hi-speed-requires
@@ -96,21 +96,21 @@ located-record-requires c κs = search needs
 returns-3 : tie.Need-returns-3
 returns-3 c =
     let a = c .before .before .before .before .before .args in
-    missing (a .order) (now (a .block)) (a .raw) (a .picture) (now (a .model)) _ (c .before .before .af-info2 .ensures)
+    missing (a .order) (now (a .block)) (a .raw) (a .picture) (now (a .model)) _ (c .before .before .record-of .ensures)
     (c .enum-told .given .1)
 
 returns-4 : tie.Need-returns-4
 returns-4 c =
     let a = c .before .before .before .before .before .before .before .args in
     unusable (a .order) (now (a .block)) (a .raw) (a .picture) (now (a .model)) _
-    (c .before .before .before .before .af-info2 .ensures) _ (c .before .manual-focus .ensures)
+    (c .before .before .before .before .record-of .ensures) _ (c .before .manual-focus .ensures)
     (c .before .before .enum-told2 .given .1) (c .if1 .left)
 
 returns-5 : tie.Need-returns-5
 returns-5 c =
     let a = c .before .before .before .before .before .before .before .before .before .before .before .args in
     recorded (a .order) (now (a .block)) (a .raw) (a .picture) (now (a .model)) _
-    (c .before .before .before .before .before .before .before .before .af-info2 .ensures) _
+    (c .before .before .before .before .before .before .before .before .record-of .ensures) _
     (c .before .before .before .before .manual-focus2 .ensures) _
     (c .before .before .before .before .before .before .recorded .given .1) (c .before .before .before .if2 .left) _
     (c .before .before .crop-hi-speed .ensures) _ (c .before .crop-area .ensures) _ (c .located-record .ensures)
@@ -119,7 +119,7 @@ pub located-in-spec : {M : Type 1} → statement M
 located-in-spec =
     tie.close
     (tie.spec
-    af-info2-requires
+    record-of-requires
     enum-told
     enum-told-2
     manual-focus-requires
