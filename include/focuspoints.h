@@ -2,11 +2,13 @@
  * The focus points of Nikon photographs: one photograph, a whole script of
  * call lines, and the contents of a maker note.
  *
- * Each function is proved to do what is said here, for every input: it ends,
- * reads nothing but what it is lent, writes nothing but `out`, and keeps no
- * state, so that any number of threads may call. It calls nothing but memcpy
- * and memset, allocates nothing, and was measured to need less than 32 KB of
- * stack, which no proof bounds. The definitions are in crates/focuspoints/specs.
+ * Each function is proved to do what its definition says
+ * (crates/focuspoints/specs), which is told here in C's words, for every input:
+ * it ends, reads nothing but what it is lent, writes nothing but `out`, and
+ * keeps no state, so that any number of threads may call. It allocates nothing.
+ * Tested by bindings/test and not proved are this header; that a function calls
+ * nothing but memcpy, memmove, memset, memcmp and bcmp (today the first and the
+ * third); and that it runs in a thread with a stack of 64 KB.
  *
  * A parameter and the one after it, NAME and NAME_len, are an array and its
  * number of places. What a caller owes:

@@ -1,4 +1,6 @@
 /* The library as C calls it: what bindings/rust/tests tries, in short. `test BLOCK` also writes the whole case's block to a file. */
+#define _POSIX_C_SOURCE 200809L
+#include <pthread.h>
 #include <stdio.h>
 #include <string.h>
 
@@ -24,15 +26,21 @@ static void expect(int holds, int line)
 static const uint8_t note[52] = "MM\0*\0\0\0\x08\0\x01\0\xB7\0\x07\0\0\0\x1E\0\0\0\x16"
                                 "0100\0\0\x03\x01\x01\x80";
 
+/* The same record behind a FocusMode. */
+static const uint8_t manual[70] = "MM\0*\0\0\0\x08\0\x02\0\x07\0\x02\0\0\0\x06\0\0\0\x22\0\xB7\0\x07\0\0\0\x1E\0\0\0\x28"
+                                  "MANUAL"
+                                  "0100\0\0\x03\x01\x01\x80";
+
 /* A directory of no entries. */
 static const uint8_t none[10] = "MM\0*\0\0\0\x08\0\0";
 
-static const char whole_case[] =
-    "0100000000000000000000000000000000000A4E494B4F4E20443630304D4D002A00000008000100B700070000001E0000001630313030"
+#define LOAD \
+    "0100000000000000000000000000000000000A4E494B4F4E20443630304D4D002A00000008000100B700070000001E0000001630313030" \
     "000003010180000000000000000000000000000000000000000077\n"
-    "03FD\n"
-    "020000076C00000B5400000190000001900A\n"
-    "06FA\n";
+#define TURN "03FD\n"
+#define LIST "06FA\n"
+
+static const char whole_case[] = LOAD TURN "020000076C00000B5400000190000001900A\n" LIST;
 
 static const char answers[] =
     "ok\n"
@@ -81,6 +89,13 @@ static void photograph(void)
     memcpy(block, note, sizeof note);
     block[22] = '9'; /* a version that is not known */
     EXPECT(PHOTOGRAPH(block, sizeof block, out, 1000) == FOCUSPOINTS_UNUSABLE && kept(0));
+    memcpy(block, note, sizeof note);
+    memcpy(block + 38, "\x17\x80\x0F\xB0\0\x64\x07\xD0\0\xC9\0\xC8", 12); /* in 6016 by 4016, at (100, 2000), 201 by 200 */
+    EXPECT(PHOTOGRAPH(block, sizeof block, out, 1000) == FOCUSPOINTS_UNPLACED && kept(0));
+    block[47] = 0xC8; /* 200 wide: its left edge is that of the frame */
+    EXPECT(PHOTOGRAPH(block, sizeof block, out, 12) == FOCUSPOINTS_OK && out[5] == 1 && out[7] == 100 && kept(12));
+    mark();
+    EXPECT(PHOTOGRAPH(manual, sizeof manual, out, 1000) == FOCUSPOINTS_MANUAL && kept(0));
     memcpy(block, note, sizeof note);
     block[29] = 0; /* primary 0 */
     EXPECT(PHOTOGRAPH(block, sizeof block, out, 1000) == FOCUSPOINTS_UNNAMED && kept(0));
@@ -131,11 +146,49 @@ static void contents(void)
     EXPECT(out[0] == 0 && out[1] == 0 && out[2] == 0 && out[3] == 0 && out[4] == 0);
 }
 
+/* Calls in a thread with a small stack. The deepest that is known is a list after 64 edits, which with the thread's own need takes half
+ * of it. The sanitizers need more. */
+#ifndef __SANITIZE_ADDRESS__
+#define STACK (64 * 1024)
+#define TURNS_4 TURN TURN TURN TURN
+#define TURNS_16 TURNS_4 TURNS_4 TURNS_4 TURNS_4
+
+static const char turned[] = LOAD TURNS_16 TURNS_16 TURNS_16 TURNS_16 LIST;
+static const char listed[] = "ok\nframe 6016 4016 points 2 primary 0 mode 1 origin 2\n1 3008 2007 164 164 0\n16 3486 2007 164 164 0\n";
+
+static void *calls(void *unused)
+{
+    static uint8_t text[1000];
+    const size_t len = sizeof listed - 1;
+
+    EXPECT(PHOTOGRAPH(note, sizeof note, out, 240) == FOCUSPOINTS_OK);
+    EXPECT(focuspoints_contents(note, sizeof note, out, 5) == FOCUSPOINTS_OK);
+    EXPECT(focuspoints_script(BYTES(whole_case), text, sizeof text) == sizeof answers - 1);
+    EXPECT(focuspoints_script(BYTES(turned), text, sizeof text) == 3 * 64 + len && memcmp(text + 3 * 64, listed, len) == 0);
+    return unused;
+}
+
+static void small_stack(void)
+{
+    pthread_attr_t small;
+    pthread_t thread;
+
+    EXPECT(pthread_attr_init(&small) == 0 && pthread_attr_setstacksize(&small, STACK) == 0);
+    EXPECT(pthread_create(&thread, &small, calls, NULL) == 0 && pthread_join(thread, NULL) == 0);
+    printf("C: run in a thread with a stack of %d bytes\n", STACK);
+}
+#else
+static void small_stack(void)
+{
+}
+#endif
+
 int main(int argc, char **argv)
 {
     photograph();
     script();
     contents();
+    small_stack();
     if (argc == 2) {
         FILE *f = fopen(argv[1], "wb");
         EXPECT(f && fwrite(note, 1, sizeof note, f) == sizeof note && fclose(f) == 0);

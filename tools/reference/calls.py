@@ -1,10 +1,13 @@
 #!/usr/bin/env python3
-"""calls.py SEED COUNT
+"""calls.py [SEED COUNT]            write the stored calls of sheet_test
+calls.py --check [SEED COUNT]    say whether the files are what would be written
 
-Writes a list of COUNT calls for the program sheet_test, crates/sheet_test/stdin,
-and what it must print, crates/sheet_test/stdout: the answers and buffers of
-the book of reference.py, which is fed the calls alone. The loads are those
-that are stored for placing_test.
+Writes a list of COUNT calls by chance for the program sheet_test,
+crates/sheet_test/stdin, and what it must print, crates/sheet_test/stdout: the
+answers and buffers of the book of reference.py, which is fed the calls alone.
+The loads are those that are stored for placing_test. What is stored is of seed 1
+and count 1200, which are taken if none are given; calls come in pairs at the
+end, so that there may be one more.
 """
 
 import os
@@ -16,6 +19,8 @@ sys.dont_write_bytecode = True
 
 import reference
 import stored
+
+SEED, COUNT = 1, 1200
 
 
 def load_bytes(raw, picture, model, block):
@@ -53,7 +58,8 @@ def one_call(chance, book, loads):
     return struct.pack(">B2IB", 7, *box, places), answer_line(book.fit(*box, buffer), buffer)
 
 
-def main(seed, count):
+def files(seed, count):
+    """The files, as (path, bytes)."""
     chance = random.Random(seed)
     # One byte of a record is the call's code.
     loads = [given for given in stored.loads() if len(given[2]) + len(given[3]) <= 491]
@@ -80,11 +86,9 @@ def main(seed, count):
         buffer = list(range(1, 241))
         add(bytes([6, 240]), answer_line(book.list(buffer), buffer))
         add(bytes([5]), answer_line(book.back()))
-    crate = os.path.join(stored.CRATES, "sheet_test")
-    with open(os.path.join(crate, "stdin"), "wb") as file:
-        file.write(b"".join(calls))
-    with open(os.path.join(crate, "stdout"), "w") as file:
-        file.write("".join(line + "\n" for line in lines))
+    crate = os.path.join("crates", "sheet_test")
+    yield os.path.join(crate, "stdin"), b"".join(calls)
+    yield os.path.join(crate, "stdout"), "".join(line + "\n" for line in lines).encode()
     tally = {}
     for line in lines:
         word = line.split(" |")[0] if line.startswith("no") else line.split(" ")[0]
@@ -93,6 +97,4 @@ def main(seed, count):
 
 
 if __name__ == "__main__":
-    if len(sys.argv) != 3:
-        sys.exit(__doc__.strip())
-    main(int(sys.argv[1]), int(sys.argv[2]))
+    sys.exit(stored.run(__doc__, files, SEED, COUNT))

@@ -4,13 +4,16 @@ demos.py --check    say whether the files are what would be written
 
 The demonstrations are demo/NAME.txt, a script of call lines, and demo/NAME.out,
 what `focusdesk` prints for it; the whole case is also what the program's own
-test crate is held to, crates/focusdesk/stdin and stdout. What is printed comes
-from reference.py. Beside each line stands its answer as worked out by hand from
+test crate is held to, crates/focusdesk/stdin and stdout. README.md shows them:
+there the indented block after `$ ./focusdesk < demo/NAME.txt`, and the number
+of its lines if that is said, are written too. What is printed comes from
+reference.py. Beside each line stands its answer as worked out by hand from
 the specification, with how it comes about, and nothing is written if the
 reference says otherwise.
 """
 
 import os
+import re
 import sys
 
 sys.dont_write_bytecode = True
@@ -195,26 +198,40 @@ def worked(pairs):
     return given, printed.encode()
 
 
+# A block that README.md shows: behind its command, or behind a summary that ends with the number of its lines.
+SHOWN = re.compile(r"""(\$ \./focusdesk < demo/([\w-]+)\.txt)(</code>: )?(?(3)\d+( lines</summary>\n))\n(?:    .*\n)*""")
+
+
+def readme(text, printed):
+    """README.md with what is printed, by name, in the blocks that show it."""
+    def block(match):
+        command, name, before, after = match.groups()
+        if name not in printed:
+            sys.exit("README.md shows demo/%s.txt, which is not written here" % name)
+        lines = printed[name].decode().splitlines()
+        said = before + str(len(lines)) + after if before else ""
+        return command + said + "\n" + "".join("    " + line + "\n" for line in lines)
+
+    return SHOWN.sub(block, text.decode()).encode()
+
+
 def files():
     """The files, as (path, bytes)."""
+    shown = {}
     for name, pairs in (
         ("whole-case", whole_case()), ("dx-crop", dx_crop()), ("recorded", recorded()), ("refusals", refusals()),
     ):
         given, printed = worked(pairs)
+        shown[name] = printed
         yield os.path.join("demo", name + ".txt"), given
         yield os.path.join("demo", name + ".out"), printed
         if name == "whole-case":
             yield os.path.join("crates", "focusdesk", "stdin"), given
             yield os.path.join("crates", "focusdesk", "stdout"), printed
-
-
-def main(arguments):
-    status = stored.write_or_check(files(), arguments)
-    if status is None:
-        print(__doc__.strip(), file=sys.stderr)
-        return 2
-    return status
+    text = stored.read("README.md")
+    yield "README.md", readme(text, shown)
+    print("README.md shows: %s" % ", ".join(match[2] for match in SHOWN.finditer(text.decode())))
 
 
 if __name__ == "__main__":
-    sys.exit(main(sys.argv[1:]))
+    sys.exit(stored.run(__doc__, files))

@@ -176,7 +176,8 @@ def pairs():
     yield script.LIST.lower(), TURNED
 
 
-def main(arguments):
+def files():
+    """The files, as (path, bytes)."""
     lines, answers = zip(*pairs())
     book = reference.Book()
     for line, answer in zip(lines, answers):
@@ -185,15 +186,10 @@ def main(arguments):
             sys.exit("%r...: here %s, the reference %s" % (line[:60], answer, own))
     given = script.text(lines, last_feed=False)
     crate = os.path.join("crates", "script_test")
-    status = stored.write_or_check([
-        (os.path.join(crate, "stdin"), given),
-        (os.path.join(crate, "stdout"), reference.run_script(given).encode())], arguments)
-    if status is None:
-        print(__doc__.strip(), file=sys.stderr)
-        return 2
+    yield os.path.join(crate, "stdin"), given
+    yield os.path.join(crate, "stdout"), reference.run_script(given).encode()
     print("%d lines, of which malformed: %d" % (len(lines), answers.count("no 14")))
-    return status
 
 
 if __name__ == "__main__":
-    sys.exit(main(sys.argv[1:]))
+    sys.exit(stored.run(__doc__, files))

@@ -3,6 +3,7 @@
 
   readers.py --blocks            print the blocks: the crate reading_test's stdin
   readers.py < BLOCKS            print the expected lines: its stdout
+  readers.py --check             say whether the crate's files are these two
 
 A line of BLOCKS is a block in hexadecimal; one that starts with '#' is printed
 as it is. A block that can be read is answered by its byte order; each of the
@@ -12,11 +13,13 @@ record or its number; and the contents, with all four places. The order of
 `contents`, which is open, is that of the tags' numbers.
 """
 
+import os
 import sys
 
 sys.dont_write_bytecode = True
 
 import reference as ref
+import stored
 
 RAW = (6016, 4016)
 
@@ -266,17 +269,32 @@ def cases():
         yield "area mode (%d,%d)" % mode, recorded(b"0100", 30, mode=mode)
 
 
+def blocks():
+    for name, block in cases():
+        yield "# %s\n" % name
+        yield block.hex() + "\n"
+
+
+def expected(lines):
+    for line in lines:
+        line = line.rstrip("\n")
+        yield (line if line.startswith("#") else answer(bytes.fromhex(line))) + "\n"
+
+
+def files():
+    """The files, as (path, bytes)."""
+    crate = os.path.join("crates", "reading_test")
+    yield os.path.join(crate, "stdin"), "".join(blocks()).encode()
+    yield os.path.join(crate, "stdout"), "".join(expected(blocks())).encode()
+
+
 def main(arguments):
-    if arguments == ["--blocks"]:
-        for name, block in cases():
-            print("# %s\n%s" % (name, block.hex()))
-        return 0
-    if arguments:
+    if arguments == ["--check"]:
+        return stored.run(__doc__, files)
+    if arguments not in ([], ["--blocks"]):
         print(__doc__.strip(), file=sys.stderr)
         return 2
-    for line in sys.stdin:
-        line = line.rstrip("\n")
-        print(line if line.startswith("#") else answer(bytes.fromhex(line)))
+    sys.stdout.writelines(blocks() if arguments else expected(sys.stdin))
     return 0
 
 

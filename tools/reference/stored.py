@@ -3,6 +3,7 @@ calls, with cuts by chance; and files that are written or compared."""
 
 import os
 import struct
+import sys
 
 import reference
 
@@ -44,21 +45,51 @@ def a_cut(chance, book):
     return [sides[0][0], sides[1][0], sides[0][1], sides[1][1]]
 
 
-def write_or_check(named, arguments):
-    """Writes (path, bytes) below the repository's root; with --check, compares."""
-    if arguments not in ([], ["--check"]):
+def read(path):
+    """A file below the repository's root; None if it is not there."""
+    full = os.path.join(ROOT, path)
+    if not os.path.exists(full):
         return None
-    unlike = 0
-    for path, data in named:
-        full = os.path.join(ROOT, path)
-        if not arguments:
-            os.makedirs(os.path.dirname(full), exist_ok=True)
-            with open(full, "wb") as file:
-                file.write(data)
+    with open(full, "rb") as file:
+        return file.read()
+
+
+def write(path, data):
+    """Makes a file hold these bytes."""
+    full = os.path.join(ROOT, path)
+    os.makedirs(os.path.dirname(full), exist_ok=True)
+    with open(full, "wb") as file:
+        file.write(data)
+    return True
+
+
+def is_stored(path, data):
+    """Whether a file holds these bytes; says from where on it does not."""
+    found = read(path)
+    if found is None:
+        print("%s: not there" % path)
+    elif found != data:
+        same = os.path.commonprefix([found, data])
+        print("%s: from byte %d, in line %d, on not what would be written" % (path, len(same), same.count(b"\n") + 1))
+    return found == data
+
+
+def run(doc, files, *numbers):
+    """A tool's command line, [--check] [NUMBER ..]: writes the (path, bytes)
+    that `files` gives for the numbers, when all are made; with --check,
+    compares. Without numbers they are those of the stored files. Gives the
+    exit status."""
+    arguments = sys.argv[1:]
+    check = arguments[:1] == ["--check"]
+    given = arguments[check:]
+    if len(given) not in (0, len(numbers)) or not all(number.isdecimal() for number in given):
+        print(doc.strip(), file=sys.stderr)
+        return 2
+    keep = is_stored if check else write
+    status = 0
+    for path, data in list(files(*(map(int, given) if given else numbers))):
+        if keep(path, data):
+            print("%s: %d bytes" % (path, len(data)))
         else:
-            with open(full, "rb") as file:
-                if file.read() != data:
-                    print("%s: not what would be written" % path)
-                    unlike += 1
-        print("%s: %d lines, %d bytes" % (path, data.count(b"\n") + (data[-1:] not in (b"\n", b"")), len(data)))
-    return 1 if unlike else 0
+            status = 1
+    return status

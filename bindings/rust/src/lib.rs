@@ -225,8 +225,7 @@ fn listing_of(numbers: &[u32]) -> Listing {
 
 /// What a whole script of call lines is answered: the text that the program focusdesk prints for it.
 pub fn script(script: &[u8]) -> Vec<u8> {
-    let feeds = script.iter().filter(|&&c| c == b'\n').count();
-    let most = A_LINE * (feeds + 1);
+    let most = script_room(script);
     // Most answers are a few bytes long: a buffer of all that the lines might be answered is the last one that is tried.
     let mut room = most.min(64 * 1024);
     loop {
@@ -240,7 +239,15 @@ pub fn script(script: &[u8]) -> Vec<u8> {
     }
 }
 
-/// The same at a buffer's front: gives the text's length. The rest of the buffer is kept, and all of it where it is too short.
+/// How many bytes are always enough for what a script is answered: `A_LINE` for each line. There are at most as many lines as line feeds,
+/// and one more.
+pub fn script_room(script: &[u8]) -> usize {
+    let feeds = script.iter().filter(|&&c| c == b'\n').count();
+    A_LINE * (feeds + 1)
+}
+
+/// The same as `script` at a buffer's front: gives the text's length. The rest of the buffer is kept, and all of it where it is too short.
+/// `script_room` bytes are always enough.
 pub fn script_into(script: &[u8], out: &mut [u8]) -> Result<usize, Refusal> {
     // SAFETY: as in `photograph_into`.
     let len =

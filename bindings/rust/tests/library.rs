@@ -130,11 +130,16 @@ fn a_short_buffer_is_kept_and_a_long_one_behind_the_listing() {
     }
 }
 
-#[test]
-fn all_39_points_need_240_places() {
+/// A block with the whole mask.
+fn all_points() -> Vec<u8> {
     let mut r = record(1, [0xFF, 0xFF], 30);
     r[10..13].copy_from_slice(&[0xFF, 0xFF, 0x7F]);
-    let block = block_of(&[(0xB7, 7, 30, &r)]);
+    block_of(&[(0xB7, 7, 30, &r)])
+}
+
+#[test]
+fn all_39_points_need_240_places() {
+    let block = all_points();
     assert_eq!(photograph(&block, None, None, MODEL).unwrap().points.len(), 39);
     let mut out = [MARK; LISTING];
     assert_eq!(photograph_into(&block, None, None, MODEL, &mut out[..239]), Err(Refusal::Short));
@@ -215,6 +220,46 @@ fn a_script_without_room_keeps_the_buffer() {
         assert_eq!(out[..wanted.len()], wanted);
         assert!(out[wanted.len()..].iter().all(|&c| c == 0xAB), "{places} places");
     }
+}
+
+/// A call line without its line feed: the bytes and the check.
+fn call_line(bytes: &[u8]) -> String {
+    let check = bytes.iter().fold(0u8, |sum, &b| sum.wrapping_sub(b));
+    bytes.iter().chain([&check]).map(|b| format!("{b:02X}")).collect()
+}
+
+#[test]
+fn the_longest_answers_have_room() {
+    // A load of all 39 points; then they are listed as they are, and fitted to the largest box, where numbers have up to ten digits.
+    let mut load = vec![1];
+    load.extend([0; 17]);
+    load.push(MODEL.len() as u8);
+    load.extend(MODEL);
+    load.extend(all_points());
+    let mut fit = vec![7];
+    fit.extend([0xFF; 8]);
+    let mut lines = vec![call_line(&load)];
+    for _ in 0..40 {
+        lines.extend([call_line(&[6]), call_line(&fit)]);
+    }
+    // Without the last line feed, so that there is one line more than feeds.
+    let given = lines.join("\n").into_bytes();
+    assert_eq!(script_room(&given), 81 * A_LINE);
+
+    let mut out = vec![0; script_room(&given)];
+    let len = script_into(&given, &mut out).unwrap();
+    let text = String::from_utf8(out[..len].to_vec()).unwrap();
+    let listed = line_of(photograph(&all_points(), None, None, MODEL)).replace(" | ", "\n");
+    let rows: Vec<&str> = text.strip_prefix("ok\n").unwrap().lines().collect();
+    assert_eq!(rows.len(), 80 * 40);
+    for pair in rows.chunks(2 * 40) {
+        let (list, fitted) = pair.split_at(40);
+        assert_eq!(list.join("\n"), listed);
+        assert_eq!(fitted[0], "frame 4294967295 4294967295 points 39 primary 0 mode 1 origin 2");
+    }
+    // More than the wrapper's first buffer: its last one has exactly this room.
+    assert!(len > 64 * 1024 && script_room(&given) < 4 * 64 * 1024);
+    assert_eq!(script(&given), text.into_bytes());
 }
 
 #[test]
