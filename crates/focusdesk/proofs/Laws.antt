@@ -1,5 +1,5 @@
 -- Serving a part of the input by feeding what is left of it, again and again, takes all of it: each feed gets on (`progress`), and what
--- the feeds take one after the other is the part. The answers of a feed lie in the buffer. Turn by turn, the sheet and the held line are
+-- the feeds take one after the other is the part. The answers of a feed lie in the buffer. Read by read, the sheet and the held line are
 -- those after all of the bytes that came. Assumes nothing.
 use Prim.Native.Nat.{ℕ, _+_, _-_, _<_, _≤_}
 use mathlib.Core.Path.{_≡_, refl, sym, ap, _∙_}
@@ -18,7 +18,7 @@ use Rattle.stream.specs.Stream.{heldAfter, sheetAfter, Feeds}
 use Rattle.stream.proofs.Pieces.{held-nil, sheet-nil}
 use Rattle.stream.proofs.Laws.{then-held, then-sheet, rest-all, progress}
 use Rattle.focusdesk.specs.declared.After.{After}
-use Rattle.focusdesk.specs.Served.{Serves, Turns}
+use Rattle.focusdesk.specs.Served.{Serves, ReadsOnce}
 
 -- i characters of a part are taken, and the buffer `o` has room for an answer
 pub record Serving (s : Sheet) (l₀ : List ℕ) (n : ℕ) (input l o : List ℕ) (f : Fed) (i : ℕ) : Type 0 where
@@ -94,10 +94,10 @@ pub serves-not : {s s₁ : Sheet} {l₀ l : List ℕ} {n k : ℕ} (input : List 
     → Serves s l₀ n input l (record { sheet = s₁; held = k; more = false })
 serves-not input e = record { left = λ z. false-true z; holds = λ z. false-true z; long = e }
 
--- ---- a turn
+-- ---- a read
 -- nothing came
-pub turns-none : (s : Sheet) (l : List ℕ) (n : ℕ) (more : Bool) → Turns s l n l (record { sheet = s; held = n; more = more })
-turns-none s l n more =
+pub reads-none : (s : Sheet) (l : List ℕ) (n : ℕ) (more : Bool) → ReadsOnce s l n l (record { sheet = s; held = n; more = more })
+reads-none s l n more =
     record {
       came = [];
       served =
@@ -109,13 +109,13 @@ turns-none s l n more =
     }
 
 -- the input has ended
-pub turns-end : {s s₁ : Sheet} {n k : ℕ} (l : List ℕ) → Turns s l n l (record { sheet = s₁; held = k; more = false })
-turns-end l = record { came = []; served = serves-not [] refl }
+pub reads-end : {s s₁ : Sheet} {n k : ℕ} (l : List ℕ) → ReadsOnce s l n l (record { sheet = s₁; held = k; more = false })
+reads-end l = record { came = []; served = serves-not [] refl }
 
-pub turns-some : {s : Sheet} {l₀ l : List ℕ} {n : ℕ} {r : After} (input : List ℕ) → Serves s l₀ n input l r → Turns s l₀ n l r
-turns-some input p = record { came = input; served = p }
+pub reads-some : {s : Sheet} {l₀ l : List ℕ} {n : ℕ} {r : After} (input : List ℕ) → Serves s l₀ n input l r → ReadsOnce s l₀ n l r
+reads-some input p = record { came = input; served = p }
 
--- ---- all turns: the sheet and the held line are those after all of the bytes that came
+-- ---- all reads: the sheet and the held line are those after all of the bytes that came
 pub record Running (l : List ℕ) (r : After) : Type 0 where
   pub all : List ℕ
   pub left : r .sheet ≡ sheetAfter 4097 freshSheet [] all
@@ -131,7 +131,7 @@ running-none s l e h =
       long = sym h;
     }
 
-pub running-more : {l l₁ : List ℕ} {r r₁ : After} → Running l r → Turns (r .sheet) l (r .held) l₁ r₁
+pub running-more : {l l₁ : List ℕ} {r r₁ : After} → Running l r → ReadsOnce (r .sheet) l (r .held) l₁ r₁
     → not (r₁ .more) ≡ false → Running l₁ r₁
 running-more {l} {l₁} {r} {r₁} p q e =
     let m : r₁ .more ≡ true = not-false (r₁ .more) e in

@@ -1,4 +1,4 @@
--- What serving a part of the input leaves, and what a turn leaves.
+-- What serving a part of the input leaves, and what a read leaves.
 use Prim.Native.Nat.{ℕ}
 use mathlib.Core.Bool.{true}
 use mathlib.Core.List.{List}
@@ -14,7 +14,7 @@ pub record Serves (s : Sheet) (line₀ : List ℕ) (held : ℕ) (input : List �
   pub holds : r .more ≡ true → take (r .held) line ≡ heldAfter (length line₀) (take held line₀) input
   pub long : length line ≡ length line₀
 
--- one turn: the bytes that came, none or more, are served
-pub record Turns (s : Sheet) (line₀ : List ℕ) (held : ℕ) (line : List ℕ) (r : After) : Type 0 where
+-- one read: the bytes that came, none or more, are served
+pub record ReadsOnce (s : Sheet) (line₀ : List ℕ) (held : ℕ) (line : List ℕ) (r : After) : Type 0 where
   pub came : List ℕ
   pub served : Serves s line₀ held came line r

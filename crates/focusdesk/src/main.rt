@@ -9,9 +9,9 @@ ghost use mathlib.Core.Path.{_≡_};
 ghost use lib.ListN.{length};
 ghost use Prim.Native.Nat.{_≤_};
 ghost use Rattle.session.specs.Lines.{mostText};
-ghost use Rattle.focusdesk.specs.Served.{Serves, Turns};
+ghost use Rattle.focusdesk.specs.Served.{Serves, ReadsOnce};
 
-// What a turn leaves: the sheet, how much of a line is held, and whether there may be more to read and to write.
+// What a read leaves: the sheet, how much of a line is held, and whether there may be more to read and to write.
 struct After {
     sheet: Sheet,
     held: usize,
@@ -74,9 +74,9 @@ fn finish(sheet: Sheet, line: &[u8], held: usize, out: &mut [u8])
 }
 
 // Reads once and answers what came. A read that a signal interrupts is tried again; any other that fails ends the program.
-fn turn(sheet: Sheet, line: &mut [u8], held: usize, input: &mut [u8], out: &mut [u8]) -> After
+fn read_once(sheet: Sheet, line: &mut [u8], held: usize, input: &mut [u8], out: &mut [u8]) -> After
     requires { ⌜ mostText ≤ length (now out) ⌝ }
-    ensures { λ r. ⌜ Turns sheet (now (line .entry)) held (now (line .exit)) r ⌝ }
+    ensures { λ r. ⌜ ReadsOnce sheet (now (line .entry)) held (now (line .exit)) r ⌝ }
 {
     let got = libc::read(STDIN_FILENO, input);
     if got < 0 {
@@ -98,7 +98,7 @@ fn turn(sheet: Sheet, line: &mut [u8], held: usize, input: &mut [u8], out: &mut 
     serve(sheet, line, held, &input[..n], out)
 }
 
-// Takes turns until one says that there is no more. It is told to end after 2^64 - 1 turns, which no run reaches.
+// Reads until there is no more. It is told to end after 2^64 - 1 reads, which no run comes to.
 fn main() {
     let mut line_space = no_line();
     let line: &mut [u8] = &mut line_space;
@@ -112,13 +112,13 @@ fn main() {
         held: 0,
         more: true,
     };
-    let mut turns = u64::MAX;
-    while turns > 0 {
+    let mut reads = u64::MAX;
+    while reads > 0 {
         let before = after.sheet;
-        after = turn(before, line, after.held, input, out);
+        after = read_once(before, line, after.held, input, out);
         if !after.more {
             return;
         }
-        turns -= 1;
+        reads -= 1;
     }
 }

@@ -11,7 +11,7 @@ use Rattle.placing.specs.Load.{Focus}
 use Rattle.sheet.specs.declared.Sheet.{Sheet}
 use Rattle.sheet.specs.Sheet.{freshSheet, loadSheet}
 use Rattle.journal.specs.Journal.{Journal, empty, Answer, no, journalLoad}
-use Rattle.journal.specs.Calls.{Call, load, journalStep, runJournal, journalAfter, loaded, sheetStep, runSheet, sheetAfter}
+use Rattle.journal.specs.Calls.{Call, load, journalStep, runJournal, journalAfter, afterLoad, sheetStep, runSheet, sheetAfter}
 use Rattle.journal.specs.Claim.{after, answer, LoadOnAny}
 use Rattle.journal.proofs.Claim.{claim}
 
@@ -57,7 +57,7 @@ after-append j [] ds = refl
 after-append j (c ∷ cs) ds = after-append (journalStep j c .1) cs ds
 
 -- an accepted load leaves nothing of the sheet before it
-load-same : (s t : Sheet) (o : Outcome Focus) (f : Focus) → o ≡ accepted f → loaded (loadSheet s o) ≡ loaded (loadSheet t o)
+load-same : (s t : Sheet) (o : Outcome Focus) (f : Focus) → o ≡ accepted f → afterLoad (loadSheet s o) ≡ afterLoad (loadSheet t o)
 unfolding loadSheet
 load-same s t o f e = rw e
 

@@ -31,13 +31,13 @@ use Rattle.sheet.specs.declared.EditAnswer.the-variants.{Accepted, Full, BadCut
 use Rattle.sheet.specs.declared.list.ListAnswer.the-variants as answers
 use Rattle.sheet.specs.declared.Sheet.{Sheet}
 use Rattle.sheet.specs.Place.{wordsOf, moved, placed}
-use Rattle.sheet.specs.Sheet.{editNumber, loadNumber, edited as editedTo, freshSheet, loadedSheet, loadSheet, usable, placedAt, presentFrame as frameOf, withEdits, addEdit, ifOpen, turnSheet, mirrorSheet, cutPasses, keepsPrimary, cutSheet, backSheet}
+use Rattle.sheet.specs.Sheet.{editNumber, loadNumber, edited, freshSheet, loadedSheet, loadSheet, usable, placedAt, presentFrame as frameOf, withEdits, addEdit, ifOpen, turnSheet, mirrorSheet, cutPasses, keepsPrimary, cutSheet, backSheet}
 use Rattle.sheet.specs.Listing.{listNumber, headNumbers, listed as listedOf, listCount, listIndex, isShort, headIn, listAnswer, listBuffer, scaledAll, fitAnswer, fitBuffer, flat}
 use Rattle.sheet.proofs.Buffer.{flat-length}
 use Rattle.sheet.proofs.Places.{length-places, take-places}
 use Rattle.sheet.proofs.Words.{stored-last}
 use Rattle.journal.specs.Journal.{Change, cut, turn, mirror, Journal, empty, holds, frameAfter, isListed, listed, presentFrame, listing, indexOf, primaryAfter, fitted, Answer, no, ok, ended, head, isBadCut, isFull, changeRefusal, backRefusal, journalLoad, journalChange, journalBack, numbers, written, journalList, journalFit}
-use Rattle.journal.specs.Calls.{Call, load, change, back, list, fit, journalStep, runJournal, numbered, edited, loaded, listed as listedAs, changed, sheetStep, runSheet}
+use Rattle.journal.specs.Calls.{Call, load, change, back, list, fit, journalStep, runJournal, numbered, afterEdit, afterLoad, afterList as afterList, changed, sheetStep, runSheet}
 use Rattle.journal.specs.Claim.{Claim}
 use Rattle.journal.proofs.Carry.{but-last}
 use Rattle.journal.proofs.Numbers.{Numbered, number, numbered-load, by-case}
@@ -94,11 +94,11 @@ journal-blank s e = rw e
 
 -- ---- a refused call, and one edit more
 keeps : (s : Sheet) (h : Held s) (a : EditAnswer) (n : ℕ) → numbered (editNumber a) [] ≡ refused n
-    → Agree (edited (editedTo a s)) (no n [], holds (loadOf s) (rowOf s))
+    → Agree (afterEdit (edited a s)) (no n [], holds (loadOf s) (rowOf s))
 keeps s h a n e = (ap (λ (o : Outcome (List ℕ)). record { outcome = o; buffer = [] }) e, journal-held s h, held h)
 
 adds : (s : Sheet) (h : Held s) (e : Edit) → s .standing < 64
-    → Agree (edited (editedTo Accepted (addEdit s e))) (ok [] [], holds (loadOf s) (rowOf s ++ changeOf e ∷ []))
+    → Agree (afterEdit (edited Accepted (addEdit s e))) (ok [] [], holds (loadOf s) (rowOf s ++ changeOf e ∷ []))
 unfolding addEdit editNumber
 adds s h e l = (
   refl,
@@ -167,18 +167,18 @@ primary-stays s h e =
     (ap isListed (sym more) ∙ is-listed (moved e q))
 
 -- ---- turn and mirror
-plain : (s : Sheet) (h : Held s) (e : Edit) → Agree (edited (ifOpen s (editedTo Accepted (addEdit s e))))
+plain : (s : Sheet) (h : Held s) (e : Edit) → Agree (afterEdit (ifOpen s (edited Accepted (addEdit s e))))
     (ended (cond (isFull (rowOf s)) (some 8) none) (holds (loadOf s) (rowOf s)) (holds (loadOf s) (rowOf s ++ changeOf e ∷ [])))
 unfolding ifOpen editNumber
 plain s h e = rw (usable-held s h, full s) (by (ltb (s .standing) 64) refl)
   where
-    by : (a : Bool) → ltb (s .standing) 64 ≡ a → Agree (edited (cond a (editedTo Accepted (addEdit s e)) (editedTo Full s)))
+    by : (a : Bool) → ltb (s .standing) 64 ≡ a → Agree (afterEdit (cond a (edited Accepted (addEdit s e)) (edited Full s)))
         (ended (cond (not a) (some 8) none) (holds (loadOf s) (rowOf s)) (holds (loadOf s) (rowOf s ++ changeOf e ∷ [])))
     by true q = adds s h e (ltb-true (s .standing) 64 q)
     by false q = keeps s h Full 8 refl
 
 -- ---- cut
-cuts : (s : Sheet) (h : Held s) (l t w k : ℕ) → Agree (edited (cutSheet s l t w k)) (journalChange (holds (loadOf s) (rowOf s)) (cut l t w k))
+cuts : (s : Sheet) (h : Held s) (l t w k : ℕ) → Agree (afterEdit (cutSheet s l t w k)) (journalChange (holds (loadOf s) (rowOf s)) (cut l t w k))
 unfolding cutSheet ifOpen journalChange changeRefusal editNumber
 cuts s h l t w k =
     rw (usable-held s h, full s, bad-cut s l t w k, primary-stays s h (Cut l t w k))
@@ -186,14 +186,14 @@ cuts s h l t w k =
   where
     by : (a : Bool) → ltb (s .standing) 64 ≡ a → (b c : Bool) →
         Agree
-        (edited (cond a (cond b (cond c (editedTo Accepted (addEdit s (Cut l t w k))) (editedTo DropsPrimary s)) (editedTo BadCut s)) (editedTo Full s)))
+        (afterEdit (cond a (cond b (cond c (edited Accepted (addEdit s (Cut l t w k))) (edited DropsPrimary s)) (edited BadCut s)) (edited Full s)))
         (ended (cond (not a) (some 8) (cond (not b) (some 9) (cond c none (some 10)))) (holds (loadOf s) (rowOf s)) (holds (loadOf s) (rowOf s ++ cut l t w k ∷ [])))
     by true q true true = adds s h (Cut l t w k) (ltb-true (s .standing) 64 q)
     by true q true false = keeps s h DropsPrimary 10 refl
     by true q false c = keeps s h BadCut 9 refl
     by false q b c = keeps s h Full 8 refl
 
-changes : (s : Sheet) (h : Held s) (c : Change) → Agree (edited (changed s c)) (journalChange (holds (loadOf s) (rowOf s)) c)
+changes : (s : Sheet) (h : Held s) (c : Change) → Agree (afterEdit (changed s c)) (journalChange (holds (loadOf s) (rowOf s)) c)
 unfolding turnSheet mirrorSheet journalChange changeRefusal
 changes s h (cut l t w k) = cuts s h l t w k
 changes s h turn = plain s h Turn
@@ -201,7 +201,7 @@ changes s h mirror = plain s h Mirror
 
 -- ---- back
 fewer : (s : Sheet) (h : Held s) → (s .standing ≡ 0 → ⊥)
-    → Agree (edited (editedTo Accepted (withEdits s (s .edits) (s .standing - 1))))
+    → Agree (afterEdit (edited Accepted (withEdits s (s .edits) (s .standing - 1))))
     (ok [] [], holds (loadOf s) (take (length (rowOf s) - 1) (rowOf s)))
 unfolding editNumber
 fewer s h z = (
@@ -221,13 +221,13 @@ fewer s h z = (
     row zero y = absurd (y refl)
     row (suc n) y = rw (sub-one (suc n)) (sym (but-last (rowAt (s .edits) n) _))
 
-backs : (s : Sheet) (h : Held s) → Agree (edited (backSheet s)) (journalBack (holds (loadOf s) (rowOf s)))
+backs : (s : Sheet) (h : Held s) → Agree (afterEdit (backSheet s)) (journalBack (holds (loadOf s) (rowOf s)))
 unfolding backSheet journalBack backRefusal editNumber
 backs s h =
     rw (usable-held s h, row-count (s .edits) (s .standing)) (by (eqb (s .standing) 0) refl)
   where
     by : (t : Bool) → eqb (s .standing) 0 ≡ t
-        → Agree (edited (cond t (editedTo NothingStands s) (editedTo Accepted (withEdits s (s .edits) (s .standing - 1)))))
+        → Agree (afterEdit (cond t (edited NothingStands s) (edited Accepted (withEdits s (s .edits) (s .standing - 1)))))
         (ended (cond t (some 11) none) (holds (loadOf s) (rowOf s)) (holds (loadOf s) (take (s .standing - 1) (rowOf s))))
     by true q = keeps s h NothingStands 11 refl
     by false q = rw (row-count (s .edits) (s .standing)) at (fewer s h (eqb-false (s .standing) 0 q))
@@ -246,7 +246,7 @@ index-held s h =
 
 -- once the sheet is loaded and the box has no zero side: the points ps, as many as are listed, in the frame f
 writes : (s : Sheet) (h : Held s) (f : Size) (ps : List FocusPoint) (b : List ℕ) → length ps ≡ length (listing (loadOf s) (rowOf s))
-    → listedAs (cond (isShort s (length b)) answers.Short (answers.Listed (headIn f s)))
+    → afterList (cond (isShort s (length b)) answers.Short (answers.Listed (headIn f s)))
     (cond (isShort s (length b)) b (flat ps ++ drop (length (flat ps)) b)) s .0
     ≡ written (loadOf s) (rowOf s) f ps b
 unfolding isShort headIn listCount headNumbers written listNumber
@@ -254,21 +254,21 @@ writes s h f ps b e =
     rw (listed-held s h, index-held s h, flat-length ps, flat-numbers ps, ← e)
     (by (ltb (length b) (6 * length ps)))
   where
-    by : (t : Bool) → _≡_ {A = Answer} (listedAs (cond t answers.Short (answers.Listed (record { frame = f; count = length ps; index = indexOf (loadOf s) (rowOf s); mode = s .«area_mode»; origin = s .origin })))
+    by : (t : Bool) → _≡_ {A = Answer} (afterList (cond t answers.Short (answers.Listed (record { frame = f; count = length ps; index = indexOf (loadOf s) (rowOf s); mode = s .«area_mode»; origin = s .origin })))
         (cond t b (numbers ps ++ drop (6 * length ps) b)) s .0)
         (cond t (no 13 b) (ok (head (loadOf s) (rowOf s) f ps) (numbers ps ++ drop (6 * length ps) b)))
     by true = refl
     by false = refl
 
 lists : (s : Sheet) (h : Held s) (b : List ℕ)
-    → listedAs (listAnswer s (length b)) (listBuffer s b) s .0 ≡ journalList (holds (loadOf s) (rowOf s)) b
+    → afterList (listAnswer s (length b)) (listBuffer s b) s .0 ≡ journalList (holds (loadOf s) (rowOf s)) b
 unfolding listAnswer listBuffer journalList
 lists s h b =
     rw (usable-held s h, present-frame s, listed-held s h)
     (writes s h (frameAfter (s .frame) (rowOf s)) (listing (loadOf s) (rowOf s)) b refl)
 
 fits : (s : Sheet) (h : Held s) (box : Size) (b : List ℕ)
-    → listedAs (fitAnswer s box (length b)) (fitBuffer s box b) s .0 ≡ journalFit (holds (loadOf s) (rowOf s)) box b
+    → afterList (fitAnswer s box (length b)) (fitBuffer s box b) s .0 ≡ journalFit (holds (loadOf s) (rowOf s)) box b
 unfolding fitAnswer fitBuffer scaledAll journalFit listNumber
 fits s h box b =
     rw (usable-held s h, present-frame s, listed-held s h) (by (hasZeroSide box))
@@ -276,7 +276,7 @@ fits s h box b =
     ps : List FocusPoint
     ps = fitted (loadOf s) (rowOf s) box
 
-    by : (t : Bool) → listedAs (cond t answers.ZeroBox (cond (isShort s (length b)) answers.Short (answers.Listed (headIn box s))))
+    by : (t : Bool) → afterList (cond t answers.ZeroBox (cond (isShort s (length b)) answers.Short (answers.Listed (headIn box s))))
         (cond t b (cond (isShort s (length b)) b (flat ps ++ drop (length (flat ps)) b))) s .0
         ≡ cond t (no 12 b) (written (loadOf s) (rowOf s) box ps b)
     by true = refl
@@ -287,7 +287,7 @@ fits s h box b =
 by-number : (n : ℕ) → 1 ≤ n → n ≤ 6 → numbered (refusalNumber (refusalOf n)) [] ≡ refused n
 by-number n a b = rw (by-case n a b, ne-eqb n 0 (λ z. omega arith))
 
-loads : (s : Sheet) (g : Good s) (o : Outcome Focus) → Sound o → Numbered o → Agree (loaded (loadSheet s o)) (journalLoad (journalOf s) o)
+loads : (s : Sheet) (g : Good s) (o : Outcome Focus) → Sound o → Numbered o → Agree (afterLoad (loadSheet s o)) (journalLoad (journalOf s) o)
 unfolding loadSheet loadedSheet journalLoad loadNumber
 loads s g (refused n) d (number _ a b) =
     (ap (λ (o : Outcome (List ℕ)). record { outcome = o; buffer = [] }) (by-number n a b), refl, g)

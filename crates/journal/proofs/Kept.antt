@@ -17,10 +17,10 @@ use Rattle.sheet.specs.declared.EditAnswer.the-variants.{Accepted, Empty, Full,
 use Rattle.sheet.specs.declared.list.ListAnswer.the-variants as answers
 use Rattle.sheet.specs.declared.Sheet.{Sheet}
 use Rattle.sheet.specs.declared.Edited.{Edited}
-use Rattle.sheet.specs.Sheet.{editNumber, loadNumber, edited as editedTo, loadSheet, usable, presentFrame, withEdits, addEdit, ifOpen, turnSheet, mirrorSheet, cutPasses, keepsPrimary, cutSheet, backSheet}
+use Rattle.sheet.specs.Sheet.{editNumber, loadNumber, edited, loadSheet, usable, presentFrame, withEdits, addEdit, ifOpen, turnSheet, mirrorSheet, cutPasses, keepsPrimary, cutSheet, backSheet}
 use Rattle.sheet.specs.Listing.{listNumber, listed as listedOf, isShort, headIn, over, flat, scaledAll, listAnswer, listBuffer, fitAnswer, fitBuffer}
 use Rattle.journal.specs.Journal.{Change, cut, turn, mirror, Answer}
-use Rattle.journal.specs.Calls.{Call, load, change, back, list, fit, lent, edited, loaded, listed, changed, sheetStep}
+use Rattle.journal.specs.Calls.{Call, load, change, back, list, fit, lent, afterEdit, afterLoad, afterList, changed, sheetStep}
 use Rattle.journal.specs.Claim.{RefusedKeeps}
 
 abbrev isAccepted : Outcome (List ℕ) → Bool
@@ -34,7 +34,7 @@ Keeps r s b = (isAccepted (r .0 .outcome) ≡ true) ⊎ ((r .1 ≡ s) × (r .0 .
 abbrev KeepsEdited : Edited → Sheet → Type 0
 KeepsEdited r s = (r .answer ≡ Accepted) ⊎ (r .sheet ≡ s)
 
-keeps-edited : {r : Edited} {s : Sheet} → KeepsEdited r s → Keeps (edited r) s []
+keeps-edited : {r : Edited} {s : Sheet} → KeepsEdited r s → Keeps (afterEdit r) s []
 unfolding editNumber
 keeps-edited (inl e) = inl (rw e)
 keeps-edited (inr e) = inr (e, refl)
@@ -43,7 +43,7 @@ opens : (s : Sheet) (r : Edited) → KeepsEdited r s → KeepsEdited (ifOpen s r
 unfolding ifOpen
 opens s r k = by (usable s) (ltb (s .standing) 64)
   where
-    by : (a b : Bool) → KeepsEdited (cond a (cond b r (editedTo Full s)) (editedTo Empty s)) s
+    by : (a b : Bool) → KeepsEdited (cond a (cond b r (edited Full s)) (edited Empty s)) s
     by true true = k
     by true false = inr refl
     by false b = inr refl
@@ -52,7 +52,7 @@ cuts : (s : Sheet) (l t w h : ℕ) → KeepsEdited (cutSheet s l t w h) s
 unfolding cutSheet
 cuts s l t w h = opens s _ (by (cutPasses l t w h (presentFrame s)) (keepsPrimary s (Cut l t w h)))
   where
-    by : (a b : Bool) → KeepsEdited (cond a (cond b (editedTo Accepted (addEdit s (Cut l t w h))) (editedTo DropsPrimary s)) (editedTo BadCut s)) s
+    by : (a b : Bool) → KeepsEdited (cond a (cond b (edited Accepted (addEdit s (Cut l t w h))) (edited DropsPrimary s)) (edited BadCut s)) s
     by true true = inl refl
     by true false = inr refl
     by false b = inr refl
@@ -67,30 +67,30 @@ backs : (s : Sheet) → KeepsEdited (backSheet s) s
 unfolding backSheet
 backs s = by (usable s) (eqb (s .standing) 0)
   where
-    by : (a b : Bool) → KeepsEdited (cond a (cond b (editedTo NothingStands s) (editedTo Accepted (withEdits s (s .edits) (s .standing - 1)))) (editedTo Empty s)) s
+    by : (a b : Bool) → KeepsEdited (cond a (cond b (edited NothingStands s) (edited Accepted (withEdits s (s .edits) (s .standing - 1)))) (edited Empty s)) s
     by true true = inr refl
     by true false = inl refl
     by false b = inr refl
 
-loads : (s : Sheet) (o : Outcome Focus) → Keeps (loaded (loadSheet s o)) s []
+loads : (s : Sheet) (o : Outcome Focus) → Keeps (afterLoad (loadSheet s o)) s []
 unfolding loadSheet loadNumber
 loads s (refused n) = inr (refl, refl)
 loads s (accepted f) = inl refl
 
-lists : (s : Sheet) (b : List ℕ) → Keeps (listed (listAnswer s (length b)) (listBuffer s b) s) s b
+lists : (s : Sheet) (b : List ℕ) → Keeps (afterList (listAnswer s (length b)) (listBuffer s b) s) s b
 unfolding listAnswer listBuffer listNumber
 lists s b = by (usable s) (isShort s (length b))
   where
-    by : (u v : Bool) → Keeps (listed (cond u (cond v answers.Short (answers.Listed (headIn (presentFrame s) s))) answers.Empty) (cond u (cond v b (over (flat (listedOf s)) b)) b) s) s b
+    by : (u v : Bool) → Keeps (afterList (cond u (cond v answers.Short (answers.Listed (headIn (presentFrame s) s))) answers.Empty) (cond u (cond v b (over (flat (listedOf s)) b)) b) s) s b
     by true true = inr (refl, refl)
     by true false = inl refl
     by false v = inr (refl, refl)
 
-fits : (s : Sheet) (box : Size) (b : List ℕ) → Keeps (listed (fitAnswer s box (length b)) (fitBuffer s box b) s) s b
+fits : (s : Sheet) (box : Size) (b : List ℕ) → Keeps (afterList (fitAnswer s box (length b)) (fitBuffer s box b) s) s b
 unfolding fitAnswer fitBuffer listNumber
 fits s box b = by (usable s) (hasZeroSide box) (isShort s (length b))
   where
-    by : (u z v : Bool) → Keeps (listed (cond u (cond z answers.ZeroBox (cond v answers.Short (answers.Listed (headIn box s)))) answers.Empty) (cond u (cond z b (cond v b (over (flat (scaledAll (presentFrame s) box (listedOf s))) b))) b) s) s b
+    by : (u z v : Bool) → Keeps (afterList (cond u (cond z answers.ZeroBox (cond v answers.Short (answers.Listed (headIn box s)))) answers.Empty) (cond u (cond z b (cond v b (over (flat (scaledAll (presentFrame s) box (listedOf s))) b))) b) s) s b
     by true true v = inr (refl, refl)
     by true false true = inr (refl, refl)
     by true false false = inl refl

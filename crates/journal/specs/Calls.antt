@@ -59,11 +59,11 @@ journalAfter j (c ∷ cs) = journalAfter (journalStep j c .1) cs
 abbrev pub numbered : ℕ → List ℕ → Outcome (List ℕ)
 numbered n given = cond (eqb n 0) (accepted given) (refused n)
 
-abbrev pub edited : Edited → Answer × Sheet
-edited r = (record { outcome = numbered (editNumber (r .answer)) []; buffer = [] }, r .sheet)
+abbrev pub afterEdit : Edited → Answer × Sheet
+afterEdit r = (record { outcome = numbered (editNumber (r .answer)) []; buffer = [] }, r .sheet)
 
-abbrev pub loaded : Loaded → Answer × Sheet
-loaded r = (record { outcome = numbered (loadNumber (r .answer)) []; buffer = [] }, r .sheet)
+abbrev pub afterLoad : Loaded → Answer × Sheet
+afterLoad r = (record { outcome = numbered (loadNumber (r .answer)) []; buffer = [] }, r .sheet)
 
 -- what list and fit give
 abbrev pub given : ListAnswer → List ℕ
@@ -72,8 +72,8 @@ given ZeroBox = []
 given Short = []
 given (Listed l) = headNumbers l
 
-abbrev pub listed : ListAnswer → List ℕ → Sheet → Answer × Sheet
-listed a buffer s = (record { outcome = numbered (listNumber a) (given a); buffer = buffer }, s)
+abbrev pub afterList : ListAnswer → List ℕ → Sheet → Answer × Sheet
+afterList a buffer s = (record { outcome = numbered (listNumber a) (given a); buffer = buffer }, s)
 
 abbrev pub changed : Sheet → Change → Edited
 changed s (cut left top width height) = cutSheet s left top width height
@@ -81,11 +81,11 @@ changed s turn = turnSheet s
 changed s mirror = mirrorSheet s
 
 unfoldable pub sheetStep : Sheet → Call → Answer × Sheet
-sheetStep s (load block raw picture model) = loaded (loadSheet s (focusOf block raw picture model))
-sheetStep s (change c) = edited (changed s c)
-sheetStep s back = edited (backSheet s)
-sheetStep s (list buffer) = listed (listAnswer s (length buffer)) (listBuffer s buffer) s
-sheetStep s (fit box buffer) = listed (fitAnswer s box (length buffer)) (fitBuffer s box buffer) s
+sheetStep s (load block raw picture model) = afterLoad (loadSheet s (focusOf block raw picture model))
+sheetStep s (change c) = afterEdit (changed s c)
+sheetStep s back = afterEdit (backSheet s)
+sheetStep s (list buffer) = afterList (listAnswer s (length buffer)) (listBuffer s buffer) s
+sheetStep s (fit box buffer) = afterList (fitAnswer s box (length buffer)) (fitBuffer s box buffer) s
 
 unfoldable pub runSheet : Sheet → List Call → List Answer
 runSheet s [] = []

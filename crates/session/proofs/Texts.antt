@@ -37,7 +37,7 @@ use Rattle.sheet.specs.Listing.{listNumber, headNumbers, listing, listed, listC
 use Rattle.sheet.proofs.Listed.{listing-length}
 use Rattle.sheet.proofs.Usable.{usable-told}
 use Rattle.journal.specs.Journal.{Answer}
-use Rattle.journal.specs.Calls.{Call, load, list, fit, numbered, given, edited, sheetStep}
+use Rattle.journal.specs.Calls.{Call, load, list, fit, numbered, given, afterEdit, sheetStep}
 use Rattle.session.specs.declared.Stepped.{Stepped}
 use Rattle.session.specs.Lines.{Spelled, contents, asks, spelledBy, spelledIn, lentBuffer, givenText, outcomeText, answerText, tagListText, mostText, fewPoints, Answers}
 
@@ -77,7 +77,7 @@ module _ {o o₁ : List ℕ} {a a₁ : ℕ} where
 
   -- ---- cut, turn, mirror and back
   pub edit-text : (e : Edited) (n : ℕ) → n ≡ editNumber (e .answer) → Puts o a (outcomeText (numbered n []) []) 14 o₁ a₁
-      → Puts o a (answerText (edited e .0)) mostText o₁ a₁
+      → Puts o a (answerText (afterEdit e .0)) mostText o₁ a₁
   edit-text e n f p = at-most (rw f at p) (omega arith)
 
 -- ---- the numbers of a head
@@ -150,8 +150,8 @@ module _ {o o₁ : List ℕ} {a a₁ : ℕ} (s : Sheet) where
       record { left = ap (λ (x : Loaded). x .sheet) e; put = q .0; short = omega (arith, q .1) }
 
 module _ {o o₁ : List ℕ} {a : ℕ} (s : Sheet) {r : Stepped} where
-  pub answered-edit : (c : Call) (e : Edited) → edited e ≡ sheetStep s c
-      → (r .sheet ≡ e .sheet) × Put o a (answerText (edited e .0)) o₁ (r .at) × (length (answerText (edited e .0)) ≤ mostText)
+  pub answered-edit : (c : Call) (e : Edited) → afterEdit e ≡ sheetStep s c
+      → (r .sheet ≡ e .sheet) × Put o a (answerText (afterEdit e .0)) o₁ (r .at) × (length (answerText (afterEdit e .0)) ≤ mostText)
       → Answers s (asks c) o a o₁ r
   answered-edit c e f p =
       record { left = p .0 ∙ ap (λ (x : Answer × Sheet). x .1) f; put = rw (← f) (p .1); short = rw (← f) (p .2) }

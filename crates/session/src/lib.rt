@@ -16,7 +16,7 @@ ghost use lib.ListN.{length, replicate};
 ghost use Rattle.text.specs.Put.{Put};
 ghost use Rattle.reading.specs.Contents.{contentsOf};
 ghost use Rattle.sheet.specs.Listing.{listNumber, headNumbers};
-ghost use Rattle.journal.specs.Calls.{load, list, fit, change, back, numbered, given, edited, loaded};
+ghost use Rattle.journal.specs.Calls.{load, list, fit, change, back, numbered, given, afterEdit, afterLoad};
 ghost use Rattle.journal.specs.Journal.{cut};
 ghost use Rattle.calls.specs.Format.{modelPart, blockPart, contentsPart};
 ghost use Rattle.session.specs.Lines.{Spelled, malformed, spelled, spelledIn, contents, asks, lentBuffer, givenText, outcomeText, answerText, tagListText, mostText, Answers, fewPoints};
@@ -109,7 +109,7 @@ fn answer_fit(sheet: Sheet, size: Size, out: &mut [u8], at: usize) -> Stepped
 
 // The sheet after cut, turn, mirror or back, and the answer's line.
 fn after_edit(edit: Edited, out: &mut [u8], at: usize) -> Stepped
-    ensures { λ r. ⌜ (r .sheet ≡ edit .sheet) × Put (now (out .entry)) at (answerText (edited edit .0)) (now (out .exit)) (r .at) × (length (answerText (edited edit .0)) ≤ mostText) ⌝ }
+    ensures { λ r. ⌜ (r .sheet ≡ edit .sheet) × Put (now (out .entry)) at (answerText (afterEdit edit .0)) (now (out .exit)) (r .at) × (length (answerText (afterEdit edit .0)) ≤ mostText) ⌝ }
 {
     let answer = edit.answer;
     let next = put_outcome(out, at, sheet::edit_number(answer));

@@ -1,4 +1,4 @@
--- `main`: turn by turn, the sheet and the held line are those after all that came (`Running`), and the turns run out. Assumes nothing.
+-- `main`: read by read, the sheet and the held line are those after all that came (`Running`), and the reads run out. Assumes nothing.
 use Rattle.focusdesk.proofs.Laws as laws
 use Rattle.focusdesk.proofs.Laws.{Running}
 use native.Mathlib.Omega.{arith}
@@ -10,10 +10,10 @@ use Rattle.focusdesk.proofs.main.Statement.{statement}
 use Rattle.focusdesk.proofs.main.Tie as tie
 
 abbrev Inv-loop : tie.InvT-loop
-Inv-loop line₀ input₀ out₀ after₀ turns₀ line input out after turns = (mostText ≤ length out) × Running line after
+Inv-loop line₀ input₀ out₀ after₀ reads₀ line input out after reads = (mostText ≤ length out) × Running line after
 
 abbrev μ-loop : tie.MeasureT-loop
-μ-loop line₀ input₀ out₀ after₀ turns₀ line input out after turns = turns
+μ-loop line₀ input₀ out₀ after₀ reads₀ line input out after reads = reads
 
 no-line-requires : tie.Need-no-line-requires Inv-loop μ-loop
 no-line-requires c κs = tt
@@ -39,20 +39,20 @@ new-requires c κs = tt
 loop-holds : tie.Need-loop-holds Inv-loop μ-loop
 loop-holds c = (omega (arith, (c .before .before .large-buffer2 .ensures)), laws.running-none _ _ (c .new .ensures) (c .before .before .before .before .before .before .no-line .ensures))
 
-turn-requires : tie.Need-turn-requires Inv-loop μ-loop
-turn-requires c κs = (c .before .before .before .before .before .loop .inv .0)
+read-once-requires : tie.Need-read-once-requires Inv-loop μ-loop
+read-once-requires c κs = (c .before .before .before .before .before .loop .inv .0)
 
 returns : tie.Need-returns Inv-loop μ-loop
 returns c = tt
 
-sub-turns : tie.Need-sub-turns Inv-loop μ-loop
-sub-turns c = omega arith
+sub-reads : tie.Need-sub-reads Inv-loop μ-loop
+sub-reads c = omega arith
 
 loop-less : tie.Need-loop-less Inv-loop μ-loop
 loop-less c = omega arith
 
 loop-again : tie.Need-loop-again Inv-loop μ-loop
-loop-again c = (omega (arith, (c .before .before .before .before .before .before .before .before .before .before .before .before .before .before .loop .inv .0), (c .before .before .before .before .before .before .before .before .turn .kept .1 .1 .1 .1)), laws.running-more ((c .before .before .before .before .before .before .before .before .before .before .before .before .before .before .loop .inv .1)) (c .before .before .before .before .before .before .before .before .turn .ensures) (c .if1 .left))
+loop-again c = (omega (arith, (c .before .before .before .before .before .before .before .before .before .before .before .before .before .before .loop .inv .0), (c .before .before .before .before .before .before .before .before .read-once .kept .1 .1 .1 .1)), laws.running-more ((c .before .before .before .before .before .before .before .before .before .before .before .before .before .before .loop .inv .1)) (c .before .before .before .before .before .before .before .before .read-once .ensures) (c .if1 .left))
 
 returns-2 : tie.Need-returns-2 Inv-loop μ-loop
 returns-2 c = tt
@@ -71,9 +71,9 @@ main-spec =
     slice-aggregate-out
     new-requires
     loop-holds
-    turn-requires
+    read-once-requires
     returns
-    sub-turns
+    sub-reads
     loop-less
     loop-again
     returns-2)

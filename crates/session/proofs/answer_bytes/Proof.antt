@@ -2,7 +2,7 @@
 use mathlib.Core.Path.{_≡_, refl, sym, ap, _∙_}
 use native.Mathlib.Omega.{arith}
 use Rattle.session.proofs.Texts as texts
-use Rattle.journal.specs.Calls.{edited, sheetStep}
+use Rattle.journal.specs.Calls.{afterEdit, sheetStep}
 use Rattle.session.specs.Lines.{spelledBy}
 use borrow.Author.Needs.{needs}
 use Rattle.session.proofs.answer_bytes.Statement.{statement}
@@ -97,28 +97,28 @@ same-length-3 c = search needs
 
 returns-3 : tie.Need-returns-3
 unfolding sheetStep
-returns-3 c = texts.by-call _ _ _ _ (c .before .before .before .before .before .before .before .before .call-of .ensures) (ap (spelledBy _) (c .before .before .before .before .before .before .left .given .1)) (texts.answered-edit _ _ _ (ap edited (c .before .before .before .before .cut .ensures)) (c .before .before .after-edit .ensures))
+returns-3 c = texts.by-call _ _ _ _ (c .before .before .before .before .before .before .before .before .call-of .ensures) (ap (spelledBy _) (c .before .before .before .before .before .before .left .given .1)) (texts.answered-edit _ _ _ (ap afterEdit (c .before .before .before .before .cut .ensures)) (c .before .before .after-edit .ensures))
 
 same-length-4 : tie.Need-same-length-4
 same-length-4 c = search needs
 
 returns-4 : tie.Need-returns-4
 unfolding sheetStep
-returns-4 c = texts.by-call _ _ _ _ (c .before .before .before .before .before .before .before .call-of .ensures) (ap (spelledBy _) (c .before .before .before .before .before .enum-told2 .given .1)) (texts.answered-edit _ _ _ (ap edited (c .before .before .before .before .turn .ensures)) (c .before .before .after-edit2 .ensures))
+returns-4 c = texts.by-call _ _ _ _ (c .before .before .before .before .before .before .before .call-of .ensures) (ap (spelledBy _) (c .before .before .before .before .before .enum-told2 .given .1)) (texts.answered-edit _ _ _ (ap afterEdit (c .before .before .before .before .turn .ensures)) (c .before .before .after-edit2 .ensures))
 
 same-length-5 : tie.Need-same-length-5
 same-length-5 c = search needs
 
 returns-5 : tie.Need-returns-5
 unfolding sheetStep
-returns-5 c = texts.by-call _ _ _ _ (c .before .before .before .before .before .before .before .call-of .ensures) (ap (spelledBy _) (c .before .before .before .before .before .enum-told3 .given .1)) (texts.answered-edit _ _ _ (ap edited (c .before .before .before .before .mirror .ensures)) (c .before .before .after-edit3 .ensures))
+returns-5 c = texts.by-call _ _ _ _ (c .before .before .before .before .before .before .before .call-of .ensures) (ap (spelledBy _) (c .before .before .before .before .before .enum-told3 .given .1)) (texts.answered-edit _ _ _ (ap afterEdit (c .before .before .before .before .mirror .ensures)) (c .before .before .after-edit3 .ensures))
 
 same-length-6 : tie.Need-same-length-6
 same-length-6 c = search needs
 
 returns-6 : tie.Need-returns-6
 unfolding sheetStep
-returns-6 c = texts.by-call _ _ _ _ (c .before .before .before .before .before .before .before .call-of .ensures) (ap (spelledBy _) (c .before .before .before .before .before .enum-told4 .given .1)) (texts.answered-edit _ _ _ (ap edited (c .before .before .before .before .back .ensures)) (c .before .before .after-edit4 .ensures))
+returns-6 c = texts.by-call _ _ _ _ (c .before .before .before .before .before .before .before .call-of .ensures) (ap (spelledBy _) (c .before .before .before .before .before .enum-told4 .given .1)) (texts.answered-edit _ _ _ (ap afterEdit (c .before .before .before .before .back .ensures)) (c .before .before .after-edit4 .ensures))
 
 same-length-7 : tie.Need-same-length-7
 same-length-7 c = search needs

@@ -1,8 +1,8 @@
--- `turn`: what came is served; nothing came where the read failed or the input has ended. Assumes nothing.
+-- `read_once`: what came is served; nothing came where the read failed or the input has ended. Assumes nothing.
 use Rattle.focusdesk.proofs.Laws as laws
 use borrow.Author.Needs.{needs}
-use Rattle.focusdesk.proofs.turn.Statement.{statement}
-use Rattle.focusdesk.proofs.turn.Tie as tie
+use Rattle.focusdesk.proofs.read_once.Statement.{statement}
+use Rattle.focusdesk.proofs.read_once.Tie as tie
 
 read-requires : tie.Need-read-requires
 read-requires c κs = search needs
@@ -14,7 +14,7 @@ same-length : tie.Need-same-length
 same-length c = search needs
 
 returns : tie.Need-returns
-returns c = laws.turns-none _ _ _ _
+returns c = laws.reads-none _ _ _ _
 
 finish-requires : tie.Need-finish-requires
 finish-requires c κs = search needs
@@ -29,7 +29,7 @@ same-length-4 : tie.Need-same-length-4
 same-length-4 c = search needs
 
 returns-2 : tie.Need-returns-2
-returns-2 c = laws.turns-end _
+returns-2 c = laws.reads-end _
 
 count-requires : tie.Need-count-requires
 count-requires c κs = search needs
@@ -53,10 +53,10 @@ same-length-7 : tie.Need-same-length-7
 same-length-7 c = search needs
 
 returns-3 : tie.Need-returns-3
-returns-3 c = laws.turns-some _ (c .before .before .before .before .serve .ensures)
+returns-3 c = laws.reads-some _ (c .before .before .before .before .serve .ensures)
 
-pub turn-spec : {M : Type 1} → statement M
-turn-spec =
+pub read-once-spec : {M : Type 1} → statement M
+read-once-spec =
     tie.close
     (tie.spec
     read-requires
