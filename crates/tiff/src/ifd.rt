@@ -3,6 +3,7 @@ use crate::io::ByteOrder;
 ghost use mathlib.Core.Path.{_≡_};
 ghost use Prim.Native.Nat.{_+_, _*_, _≤_, _<_};
 ghost use lib.ListN.{length, take, drop};
+ghost use Rattle.tiff.specs.Numbers.{u16Of};
 ghost use Rattle.tiff.specs.Block.{blockMeans, blockOf, inOrder, directoryOf, entryOf, hasTag, firstOf, findOf, isKept, typeOf, countOf, valueOf};
 
 // Whether a block can be read, and in which byte order.
@@ -73,12 +74,20 @@ pub fn parse_block(block: &[u8]) -> Block
     Block::Unreadable
 }
 
+// The 16-bit number at `at`, which lies inside the block.
+fn u16_at(block: &[u8], at: usize, order: ByteOrder) -> u16
+    requires { ⌜ at + 2 ≤ length (now block) ⌝ }
+    ensures { λ r. ⌜ r ≡ u16Of order (drop at (now (block .entry))) ⌝ }
+{
+    crate::io::joined_bytes(order, block[at], block[at + 1])
+}
+
 // The entry whose 12 bytes start at `at`.
 fn entry_at(block: &[u8], order: ByteOrder, at: usize) -> Found
     requires { ⌜ at + 12 ≤ length (now block) ⌝ }
     ensures { λ r. ⌜ r ≡ entryOf order (now (block .entry)) at ⌝ }
 {
-    let typ = crate::io::u16_at(block, at + 2, order);
+    let typ = u16_at(block, at + 2, order);
     let count = crate::io::u32_of(crate::io::tail(block, at + 4), order);
     let field = at + 8;
     let len = (count as usize) * (crate::types::type_size(typ) as usize);
@@ -107,10 +116,10 @@ fn has_tag(block: &[u8], order: ByteOrder, at: usize, tag: u16) -> bool
     requires { ⌜ at + 12 ≤ length (now block) ⌝ }
     ensures { λ r. ⌜ r ≡ hasTag order (now (block .entry)) tag at ⌝ }
 {
-    if crate::io::u16_at(block, at, order) != tag {
+    if u16_at(block, at, order) != tag {
         return false;
     }
-    0 < crate::types::type_size(crate::io::u16_at(block, at + 2, order))
+    0 < crate::types::type_size(u16_at(block, at + 2, order))
 }
 
 // The first kept entry with the tag, of `count` entries from `first`.

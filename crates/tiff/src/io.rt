@@ -1,7 +1,6 @@
 // Numbers in a byte order, and parts of a slice. Past a slice's end every byte reads as 0.
 ghost use mathlib.Core.Path.{_≡_};
-ghost use Prim.Native.Nat.{_+_, _≤_};
-ghost use lib.ListN.{length, getD, take, drop};
+ghost use lib.ListN.{getD, take, drop};
 ghost use Rattle.tiff.specs.Numbers.{joined, u16Of, u32Of, shortsOf};
 ghost use Rattle.tiff.specs.Bytes.{same};
 
@@ -61,7 +60,8 @@ pub fn equals(a: &[u8], b: &[u8]) -> bool
     true
 }
 
-fn joined_bytes(order: ByteOrder, a: u8, b: u8) -> u16
+// Two bytes as a 16-bit number.
+pub(crate) fn joined_bytes(order: ByteOrder, a: u8, b: u8) -> u16
     ensures { λ r. ⌜ r ≡ joined order 256 a b ⌝ }
 {
     let first = a as u16;
@@ -88,14 +88,6 @@ pub fn u16_of(s: &[u8], order: ByteOrder) -> u16
     ensures { λ r. ⌜ r ≡ u16Of order (now (s .entry)) ⌝ }
 {
     joined_bytes(order, u8_at(s, 0), u8_at(s, 1))
-}
-
-// The 16-bit number at `at`, which lies inside `s`.
-pub(crate) fn u16_at(s: &[u8], at: usize, order: ByteOrder) -> u16
-    requires { ⌜ at + 2 ≤ length (now s) ⌝ }
-    ensures { λ r. ⌜ r ≡ u16Of order (drop at (now (s .entry))) ⌝ }
-{
-    joined_bytes(order, s[at], s[at + 1])
 }
 
 // The two 16-bit numbers at the front of `s`.

@@ -1,4 +1,4 @@
--- `io::u16_at`: the two bytes of the slice are the first two of what starts there. Assumes nothing.
+-- `ifd::u16_at`: the two bytes of the slice are the first two of what starts there. Assumes nothing.
 use mathlib.Core.Path.{_≡_}
 use mathlib.Core.List.{List}
 use Prim.Native.Nat.{ℕ, _+_}
@@ -9,8 +9,8 @@ use denote.Ref.{now}
 use Rattle.tiff.specs.Numbers.{joined, u16Of}
 use Rattle.tiff.specs.declared.io.ByteOrder.{ByteOrder}
 use borrow.Author.Needs.{needs}
-use Rattle.tiff.proofs.io.u16_at.Statement.{statement}
-use Rattle.tiff.proofs.io.u16_at.Tie as tie
+use Rattle.tiff.proofs.ifd.u16_at.Statement.{statement}
+use Rattle.tiff.proofs.ifd.u16_at.Tie as tie
 
 from-there : (o : ByteOrder) (s : List ℕ) (at r : ℕ) → r ≡ joined o 256 (getD s at 0) (getD s (at + 1) 0) → r ≡ u16Of o (drop at s)
 unfolding u16Of
@@ -31,7 +31,7 @@ joined-bytes-requires c κs = search needs
 returns : tie.Need-returns
 returns c =
     let a = (c .before .before .before .before .args) in
-    from-there (a .order) (now (a .s)) (a .at) _ (c .joined-bytes .ensures)
+    from-there (a .order) (now (a .block)) (a .at) _ (c .joined-bytes .ensures)
 
 pub u16-at-spec : {M : Type 1} → statement M
 u16-at-spec =
