@@ -19,7 +19,7 @@ use Rattle.placing.specs.declared.focus.FocusAnswer.{FocusAnswer}
 use Rattle.placing.specs.declared.focus.FocusAnswer.the-variants.{Placed, Refused}
 use Rattle.placing.specs.declared.focus.FocusPoints.{FocusPoints}
 
--- "frame, points, order, primary, area mode, origin": the points are a list, the primary is an index into it
+-- "the frame, points in order, primary, area mode and origin": the points are a list, the primary is an index into it
 pub record Focus : Type 0 where
   pub frame : Size
   pub points : List FocusPoint
