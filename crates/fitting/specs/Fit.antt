@@ -6,6 +6,14 @@ use Rattle.reading.specs.declared.geometry.Size.{Size}
 use Rattle.reading.specs.declared.geometry.Point.{Point}
 use Rattle.fitting.specs.declared.focus.FocusPoint.{FocusPoint}
 
+-- a size, width first
+abbrev pub by : ℕ → ℕ → Size
+by width height = record { width = width; height = height }
+
+-- whether two sizes are equal
+unfoldable pub sameSize : Size → Size → Bool
+sameSize a b = eqb (a .width) (b .width) && eqb (a .height) (b .height)
+
 -- "ceil(side/2)"
 abbrev pub halfUp : ℕ → ℕ
 halfUp side = (side + 1) / 2

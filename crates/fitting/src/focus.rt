@@ -1,7 +1,7 @@
 // When a point lies on a frame, and a point measured in another frame.
 ghost use mathlib.Core.Path.{_≡_};
 ghost use Prim.Native.Nat.{min, max};
-ghost use Rattle.fitting.specs.Fit.{halfUp, axisFits, hasZeroSide, centerLiesOn, areaFits, noArea, liesOn, pointFits};
+ghost use Rattle.fitting.specs.Fit.{halfUp, axisFits, sameSize, hasZeroSide, centerLiesOn, areaFits, noArea, liesOn, pointFits};
 ghost use Rattle.fitting.specs.Scale.{scaleOf, trimOf, scaledSide, scaledCenter, scaledSize, scaledPoint};
 use reading::focus::InFocus;
 use reading::geometry::Point;
@@ -28,6 +28,13 @@ pub fn axis_fits(side: u32, center: u32, frame: u32) -> bool
 {
     let half = half_up(side) as u64;
     half <= center as u64 && center as u64 + half <= frame as u64
+}
+
+// Whether two sizes are equal.
+pub fn same_size(a: Size, b: Size) -> bool
+    ensures { λ r. ⌜ r ≡ sameSize a b ⌝ }
+{
+    a.width == b.width && a.height == b.height
 }
 
 // Whether a size has no width or no height.

@@ -13,10 +13,10 @@ use borrow.Author.Tests.{lt-ltb, le-ltb}
 use borrow.Rule.Slice.PartMut.{putMid, postOf}
 use Rattle.reading.specs.Focus.{modeNumber}
 use Rattle.fitting.specs.declared.focus.FocusPoint.{FocusPoint}
-use Rattle.placing.specs.Load.{originNumber}
+use Rattle.load.specs.Load.{originNumber}
 use Rattle.sheet.specs.declared.list.Listing.{Listing}
 use Rattle.sheet.specs.Listing.{flat, over, headNumbers, hasRoom, withPoints}
-use Rattle.sheet.proofs.Buffer.{flat-length, no-room, has-room}
+use Rattle.sheet.proofs.Buffer.{no-room, has-room}
 use Rattle.focuspoints.specs.Buffer.{roomNumber, withNumbers}
 
 pub laid : (vs l : List ℕ) → length vs ≤ length l → sets l 0 vs ≡ over vs l

@@ -12,8 +12,8 @@ use borrow.Author.Tests.{le-ltb}
 use Rattle.text.proofs.Lists.{by-bool}
 use Rattle.tiff.specs.Outcome.{Outcome, refused, accepted}
 use Rattle.placing.specs.Focus.{focusOf}
-use Rattle.placing.specs.Load.{Focus}
-use Rattle.placing.specs.Sound.{Sound, SoundFocus}
+use Rattle.load.specs.Load.{Focus}
+use Rattle.load.specs.Sound.{Sound, SoundFocus}
 use Rattle.placing.proofs.Sound.{focus-sound}
 use Rattle.journal.proofs.Numbers.{Numbered, number, numbered-load}
 use Rattle.focuspoints.specs.Buffer.{roomNumber, withNumbers}

@@ -1,7 +1,7 @@
 -- One photograph's answer is the definition's. A refused load returns its number. The numbers that the code writes of an accepted one are
 -- those of the journal's listing: without edits every point is listed, where it was placed. Assumes nothing.
 use Prim.Native.Nat.{ℕ, _+_, _*_, _≤_}
-use mathlib.Core.List.{List, [], _∷_, _++_}
+use mathlib.Core.List.{List, [], _∷_}
 use mathlib.Core.Path.{_≡_, refl, sym, ap, _∙_}
 use lib.ListN.{length, take}
 use lib.Seq.{length-take-le}
@@ -13,17 +13,17 @@ use Rattle.reading.specs.declared.geometry.Size.{Size}
 use Rattle.reading.specs.declared.geometry.OptionalSize.{OptionalSize}
 use Rattle.reading.specs.declared.geometry.OptionalSize.the-variants.{Missing, Given}
 use Rattle.fitting.specs.declared.focus.FocusPoint.{FocusPoint}
-use Rattle.placing.specs.declared.focus.FocusPoints.{FocusPoints}
-use Rattle.placing.specs.declared.focus.Refusal.{Refusal}
-use Rattle.placing.specs.declared.focus.FocusAnswer.{FocusAnswer}
-use Rattle.placing.specs.declared.focus.FocusAnswer.the-variants.{Placed, Refused}
+use Rattle.load.specs.declared.focus.FocusPoints.{FocusPoints}
+use Rattle.load.specs.declared.focus.Refusal.{Refusal}
+use Rattle.load.specs.declared.focus.FocusAnswer.{FocusAnswer}
+use Rattle.load.specs.declared.focus.FocusAnswer.the-variants.{Placed, Refused}
 use Rattle.placing.specs.Focus.{focusOf}
-use Rattle.placing.specs.Load.{Focus, originNumber, refusalNumber, refusalOf, refusedBy, laidOut}
-use Rattle.placing.specs.Sound.{Sound, SoundFocus}
+use Rattle.load.specs.Load.{Focus, originNumber, refusalNumber, refusalOf, refusedBy, laidOut}
+use Rattle.load.specs.Sound.{Sound, SoundFocus}
 use Rattle.placing.proofs.Sound.{focus-sound}
 use Rattle.sheet.specs.Listing.{headNumbers}
 use Rattle.sheet.proofs.Places.{take-places}
-use Rattle.journal.specs.Journal.{frameAfter, presentFrame, listed, listing, head, numbers, carried}
+use Rattle.journal.specs.Journal.{frameAfter, listed, numbers, carried}
 use Rattle.journal.proofs.Numbers.{Numbered, number, numbered-load, by-case}
 use Rattle.journal.proofs.Placed.{flat-numbers}
 use Rattle.focuspoints.specs.Buffer.{roomNumber, withNumbers, laidNumbers}

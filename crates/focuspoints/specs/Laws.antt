@@ -7,8 +7,8 @@ use lib.ListN.{length}
 use Rattle.reading.specs.Focus.{modeNumber}
 use Rattle.reading.specs.declared.geometry.OptionalSize.{OptionalSize}
 use Rattle.placing.specs.Focus.{focusOf}
-use Rattle.placing.specs.Load.{Focus, originNumber}
-use Rattle.placing.specs.Sound.{SoundFocus}
+use Rattle.load.specs.Load.{Focus, originNumber}
+use Rattle.load.specs.Sound.{SoundFocus}
 use Rattle.journal.specs.Journal.{numbers}
 use Rattle.focuspoints.specs.Photograph.{listingOf, photographNumber, photographBuffer}
 

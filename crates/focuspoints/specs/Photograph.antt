@@ -8,7 +8,7 @@ use lib.ListN.{length}
 use Rattle.tiff.specs.Outcome.{Outcome, refused, accepted}
 use Rattle.reading.specs.declared.geometry.OptionalSize.{OptionalSize}
 use Rattle.reading.specs.declared.geometry.OptionalSize.the-variants.{Missing, Given}
-use Rattle.placing.specs.Load.{Focus}
+use Rattle.load.specs.Load.{Focus}
 use Rattle.journal.specs.Journal.{presentFrame, listing, head, numbers}
 use Rattle.focuspoints.specs.Buffer.{roomNumber, withNumbers}
 

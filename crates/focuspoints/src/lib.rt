@@ -1,7 +1,7 @@
 // A library for C and Rust: one photograph's focus points, a whole script of call lines, and a note's contents. What is exported takes
 // numbers and slices (a pointer and a length each) and asks nothing of what they hold.
-use placing::focus::FocusAnswer;
-use placing::focus::FocusPoints;
+use load::focus::FocusAnswer;
+use load::focus::FocusPoints;
 use reading::geometry::OptionalSize;
 use reading::geometry::Size;
 use reading::nikon::ContentsAnswer;
@@ -44,7 +44,7 @@ fn put_head(l: Listing, out: &mut [u32])
     out[2] = l.count as u32;
     out[3] = l.index as u32;
     out[4] = reading::focus::mode_number(mode);
-    out[5] = placing::focus::origin_number(origin);
+    out[5] = load::focus::origin_number(origin);
 }
 
 // The listing of a load's points, where it has room: the head's six numbers, and six numbers a point.
@@ -94,7 +94,7 @@ pub extern "C" fn focuspoints_photograph(
     let focus = placing::nikon::focus(block, raw, picture, model);
     let answer = focus.answer;
     match answer {
-        FocusAnswer::Refused(why) => placing::focus::refusal_number(why),
+        FocusAnswer::Refused(why) => load::focus::refusal_number(why),
         FocusAnswer::Placed => put_listing(focus, out),
     }
 }

@@ -7,7 +7,7 @@ use lib.ListN.{getD, length}
 use lib.Seq.{getD-at}
 use Rattle.tiff.specs.Outcome.{Outcome, accepted}
 use Rattle.placing.specs.Focus.{focusOf}
-use Rattle.placing.specs.Load.{Focus}
+use Rattle.load.specs.Load.{Focus}
 use Rattle.sheet.specs.declared.Sheet.{Sheet}
 use Rattle.sheet.specs.Sheet.{freshSheet, loadSheet}
 use Rattle.journal.specs.Journal.{Journal, empty, Answer, no, journalLoad}

@@ -20,8 +20,8 @@ use Rattle.fitting.specs.declared.focus.FocusPoint.{FocusPoint}
 use Rattle.fitting.specs.Fit.{hasZeroSide}
 use Rattle.fitting.specs.Scale.{scaledPoint}
 use Rattle.placing.specs.Focus.{focusOf}
-use Rattle.placing.specs.Load.{Focus, noPoint, refusalOf, refusalNumber}
-use Rattle.placing.specs.Sound.{Sound}
+use Rattle.load.specs.Load.{Focus, noPoint, refusalOf, refusalNumber}
+use Rattle.load.specs.Sound.{Sound}
 use Rattle.placing.proofs.Sound.{focus-sound}
 use Rattle.sheet.specs.declared.edit.Edit.{Edit}
 use Rattle.sheet.specs.declared.edit.Edit.the-variants.{Cut, Turn, Mirror}

@@ -7,10 +7,10 @@ use Rattle.reading.specs.Values.{manualFocusOf, cropHiSpeedOf, cropAreaOf}
 use Rattle.reading.specs.Record.{layoutAmong, layoutOf, areaModeOf, maskOf, sizeAt, recordIn, recordOf, afInfo2Of}
 use Rattle.reading.specs.Focus.{inFocusNumber, modeNumber}
 use Rattle.fitting.specs.Fit.{axisFits, hasZeroSide, centerLiesOn, areaFits, noArea, liesOn, pointFits}
-use Rattle.placing.specs.Points.{hasTable}
-use Rattle.placing.specs.Named.{pictureIs, uncropped, placedFrame, marked, fitsWindow, isNamed, isListed, listedFrom, hasNumber, indexOf, placedIn, namedOutcome}
+use Rattle.named.specs.Points.{hasTable}
+use Rattle.named.specs.Named.{pictureIs, uncropped, placedFrame, marked, fitsWindow, isNamed, isListed, listedFrom, hasNumber, indexOf, placedIn, namedOutcome}
 use Rattle.placing.specs.Focus.{recordsPosition, placedOf, focusIn, focusOf}
-use Rattle.placing.specs.Load.{originNumber}
+use Rattle.load.specs.Load.{originNumber}
 use Rattle.journal.specs.Journal.{frameAfter, carried, listed, isBadCut, journalLoad, changeRefusal, journalChange, numbers, written, journalList}
 use Rattle.journal.specs.Calls.{journalStep, runJournal}
 use Rattle.journal.specs.Example.{wholeCase, WholeCase}

@@ -12,7 +12,7 @@ use Rattle.fitting.specs.Fit.{pointFits}
 use Rattle.fitting.specs.Scale.{scaledPoint}
 use Rattle.fitting.proofs.Fitting.{fits-on-frame}
 use Rattle.fitting.proofs.Scaled.{scaled-fits, scaled-near}
-use Rattle.placing.specs.Load.{Focus, noPoint}
+use Rattle.load.specs.Load.{Focus, noPoint}
 use Rattle.journal.specs.Journal.{Change, holds, presentFrame, listing, fitted, written, journalFit}
 use Rattle.journal.specs.Calls.{fit, journalStep}
 use Rattle.journal.specs.Claim.{FitsExactly, FitIsNear}

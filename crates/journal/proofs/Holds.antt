@@ -17,8 +17,8 @@ use Rattle.fitting.specs.Fit.{pointFits}
 use Rattle.fitting.proofs.Booleans.{both}
 use Rattle.fitting.proofs.Fitting.{fits-mirrored, fits-swapped}
 use Rattle.placing.specs.Focus.{focusOf}
-use Rattle.placing.specs.Load.{Focus, noPoint}
-use Rattle.placing.specs.Sound.{Sound, SoundFocus, AllFit}
+use Rattle.load.specs.Load.{Focus, noPoint}
+use Rattle.load.specs.Sound.{Sound, SoundFocus, AllFit}
 use Rattle.placing.proofs.Sound.{focus-sound}
 use Rattle.journal.specs.Journal.{Change, cut, turn, mirror, Journal, empty, holds, frameBy, pointBy, staysListed, frameAfter, movedBy, carried, isListed, ifListed, listed, presentFrame, primaryOf, primaryAfter, ended, isBadCut, cutRefusal, changeRefusal, backRefusal, journalLoad, journalChange, journalBack}
 use Rattle.journal.specs.Calls.{Call, load, change, back, list, fit, journalStep, journalAfter}

@@ -11,7 +11,7 @@ use Rattle.tiff.specs.Outcome.{Outcome, refused, accepted}
 use Rattle.reading.specs.declared.geometry.Size.{Size}
 use Rattle.fitting.specs.Fit.{hasZeroSide}
 use Rattle.placing.specs.Focus.{focusOf}
-use Rattle.placing.specs.Load.{Focus}
+use Rattle.load.specs.Load.{Focus}
 use Rattle.sheet.specs.declared.edit.Edit.the-variants.{Cut}
 use Rattle.sheet.specs.declared.EditAnswer.the-variants.{Accepted, Empty, Full, BadCut, DropsPrimary, NothingStands}
 use Rattle.sheet.specs.declared.list.ListAnswer.the-variants as answers

@@ -31,16 +31,16 @@ use Rattle.reading.specs.declared.nikon.KnownLayout.the-variants.{Unknown, Know
 use Rattle.reading.specs.declared.nikon.NamedPoints.{NamedPoints}
 use Rattle.reading.specs.declared.nikon.NamedPoints.the-variants.{Unnamed, Named}
 use Rattle.fitting.specs.declared.focus.FocusPoint.{FocusPoint}
-use Rattle.fitting.specs.Fit.{hasZeroSide, pointFits}
+use Rattle.fitting.specs.Fit.{hasZeroSide, pointFits, sameSize}
 use Rattle.fitting.specs.Scale.{scaledPoint}
-use Rattle.placing.specs.Focus.{andThen, refusedToo, pointOf, recordsPosition, alone, placedOf, focusIn, focusOf}
-use Rattle.placing.specs.Load.{Focus, refusalOf, refusalNumber, sameSize}
-use Rattle.placing.specs.Named.{dx, samePlace, noneOr, onCrop, uncropped, placedFrame, listed, hasNumber, windowFocus, placedIn, namedOutcome}
-use Rattle.placing.specs.Points.{hasTable}
-use Rattle.placing.specs.Recorded.{at, scaledTo, shifts, movedPoint, inWindow, ontoWindow, ontoPicture, shapedWindow, onto, cutOf, byCrop, positionOf}
-use Rattle.placing.specs.declared.named.Window.{Window as Part}
-use Rattle.placing.specs.declared.recorded.Cut.{Cut}
-use Rattle.placing.specs.declared.recorded.Cut.the-variants.{Other, Both, Width, Height}
+use Rattle.placing.specs.Focus.{andThen, refusedToo, pointOf, recordsPosition, placedOf, focusIn, focusOf}
+use Rattle.load.specs.Load.{alone, Focus, refusalOf, refusalNumber}
+use Rattle.named.specs.Named.{dx, samePlace, noneOr, onCrop, uncropped, placedFrame, listed, hasNumber, windowFocus, placedIn, namedOutcome}
+use Rattle.named.specs.Points.{hasTable}
+use Rattle.recorded.specs.Recorded.{at, scaledTo, shifts, movedPoint, inWindow, ontoWindow, ontoPicture, shapedWindow, onto, cutOf, byCrop, positionOf}
+use Rattle.load.specs.declared.focus.Window.{Window as Part}
+use Rattle.recorded.specs.declared.Cut.{Cut}
+use Rattle.recorded.specs.declared.Cut.the-variants.{Other, Both, Width, Height}
 use Rattle.journal.specs.Claim.{LoadNumbers}
 
 -- accepted, or refused by a number from 1 to 6

@@ -10,7 +10,7 @@ use lib.Seq.{sets, take-suc}
 use native.Mathlib.Omega.{arith}
 use Rattle.reading.specs.declared.geometry.Size.{Size}
 use Rattle.fitting.specs.declared.focus.FocusPoint.{FocusPoint}
-use Rattle.placing.specs.Load.{noPoint}
+use Rattle.load.specs.Load.{noPoint}
 use Rattle.sheet.specs.declared.edit.Edit.{Edit}
 use Rattle.sheet.specs.declared.edit.Edit.the-variants.{Cut, Turn, Mirror}
 use Rattle.sheet.specs.declared.edit.Placed.{Placed}

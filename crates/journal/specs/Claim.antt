@@ -15,7 +15,7 @@ use Rattle.fitting.specs.declared.focus.FocusPoint.{FocusPoint}
 use Rattle.fitting.specs.Fit.{hasZeroSide, pointFits}
 use Rattle.fitting.specs.Laws.{CenterNear, OnFrame}
 use Rattle.placing.specs.Focus.{focusOf}
-use Rattle.placing.specs.Load.{Focus, noPoint}
+use Rattle.load.specs.Load.{Focus, noPoint}
 use Rattle.sheet.specs.declared.Sheet.{Sheet}
 use Rattle.sheet.specs.Sheet.{freshSheet}
 use Rattle.journal.specs.Journal.{Change, cut, Journal, empty, holds, frameBy, pointBy, staysListed, presentFrame, listing, indexOf, primaryOf, primaryAfter, fitted, Answer, no, ok, numbers, head}

@@ -5,7 +5,7 @@ use mathlib.Core.List.{List, [], _∷_}
 use mathlib.Core.Path.{_≡_}
 use lib.ListN.{replicate}
 use Rattle.reading.specs.declared.geometry.OptionalSize.the-variants.{Missing}
-use Rattle.placing.specs.Points.{d600}
+use Rattle.named.specs.Points.{d600}
 use Rattle.sheet.specs.Sheet.{freshSheet}
 use Rattle.journal.specs.Journal.{cut, turn, ok}
 use Rattle.journal.specs.Calls.{Call, load, change, list, runSheet}

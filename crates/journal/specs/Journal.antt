@@ -13,7 +13,7 @@ use Rattle.reading.specs.declared.geometry.Size.{Size}
 use Rattle.fitting.specs.declared.focus.FocusPoint.{FocusPoint}
 use Rattle.fitting.specs.Fit.{hasZeroSide, pointFits}
 use Rattle.fitting.specs.Scale.{scaledPoint}
-use Rattle.placing.specs.Load.{Focus, noPoint, originNumber}
+use Rattle.load.specs.Load.{Focus, noPoint, originNumber}
 
 -- an edit: "Cut left, top, width, height", turn (a clockwise quarter rotation), mirror
 pub data Change : Type 0 where

@@ -3,11 +3,10 @@ use mathlib.Core.Path.{refl}
 use Rattle.tiff.specs.Bytes.{same}
 use Rattle.reading.specs.Focus.{inFocusNumber}
 use Rattle.reading.specs.Record.{layoutAmong, layoutOf, recordOf}
-use Rattle.fitting.specs.Fit.{axisFits, hasZeroSide, centerLiesOn, areaFits, noArea, liesOn, pointFits}
+use Rattle.fitting.specs.Fit.{axisFits, hasZeroSide, centerLiesOn, areaFits, noArea, liesOn, pointFits, sameSize}
 use Rattle.fitting.specs.Scale.{scaleOf, trimOf, scaledSide, scaledCenter, scaledArea, keptArea, scaledSize, scaledPoint}
-use Rattle.placing.specs.Points.{hasTable}
-use Rattle.placing.specs.Load.{sameSize}
-use Rattle.placing.specs.Named.{samePlace, pictureIs, onCrop, uncropped, placedFrame, marked, fitsWindow, isNamed, isListed, listedFrom, hasNumber, indexOf, placedIn, namedOutcome}
+use Rattle.named.specs.Points.{hasTable}
+use Rattle.named.specs.Named.{samePlace, pictureIs, onCrop, uncropped, placedFrame, marked, fitsWindow, isNamed, isListed, listedFrom, hasNumber, indexOf, placedIn, namedOutcome}
 use Rattle.placing.specs.Examples.{samePoint, isOnly, agrees, holds, Starred}
 
 pub starred : Starred

@@ -18,11 +18,11 @@ use Rattle.reading.specs.declared.nikon.Crop.{Crop}
 use Rattle.reading.specs.declared.nikon.Crop.the-variants.{Unrecorded, Recorded}
 use Rattle.reading.specs.declared.nikon.NamedPoints.the-variants.{Named}
 use Rattle.fitting.specs.declared.focus.FocusPoint.{FocusPoint}
-use Rattle.fitting.specs.Fit.{axisFits}
+use Rattle.fitting.specs.Fit.{axisFits, by}
 use Rattle.fitting.specs.Scale.{scaleOf, scaledPoint}
-use Rattle.placing.specs.Load.{Focus}
-use Rattle.placing.specs.Points.{by, d600}
-use Rattle.placing.specs.Named.{namedOutcome}
+use Rattle.load.specs.Load.{Focus}
+use Rattle.named.specs.Points.{d600}
+use Rattle.named.specs.Named.{namedOutcome}
 
 pub data Example : Type 0 where
   -- scale of a value, from an old side to a new one, is the last number

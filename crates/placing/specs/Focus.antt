@@ -1,27 +1,22 @@
 -- 01's definition of one load: the numbers 1 to 6 in order, or frame, points, primary, area mode and origin.
 use Prim.Native.Nat.{ℕ, min}
 use mathlib.Core.Bool.{Bool, true, false, cond, _&&_, not}
-use mathlib.Core.List.{List, [], _∷_}
+use mathlib.Core.List.{List}
 use Rattle.tiff.specs.Outcome.{Outcome, refused, accepted}
 use Rattle.tiff.specs.Block.{blockOf}
 use Rattle.reading.specs.Values.{manualFocusOf, cropHiSpeedOf, cropAreaOf}
 use Rattle.reading.specs.Record.{afInfo2Of}
 use Rattle.tiff.specs.declared.io.ByteOrder.{ByteOrder}
-use Rattle.reading.specs.declared.geometry.Size.{Size}
 use Rattle.reading.specs.declared.geometry.OptionalSize.{OptionalSize}
-use Rattle.reading.specs.declared.focus.FocusAreaMode.{FocusAreaMode}
 use Rattle.reading.specs.declared.nikon.Crop.{Crop}
 use Rattle.reading.specs.declared.nikon.CropArea.{CropArea}
 use Rattle.reading.specs.declared.nikon.FocusRecord.{FocusRecord}
 use Rattle.fitting.specs.declared.focus.FocusPoint.{FocusPoint}
 use Rattle.fitting.specs.Fit.{hasZeroSide}
-use Rattle.placing.specs.Load.{Focus, refusalNumber}
-use Rattle.placing.specs.Sound.{Sound}
-use Rattle.placing.specs.Recorded.{Placement, positionOf}
-use Rattle.placing.specs.Named.{placedIn, namedOutcome}
-use Rattle.placing.specs.declared.focus.FocusOrigin.the-variants.{Recorded}
-use Rattle.placing.specs.declared.focus.Located.{Located}
-use Rattle.placing.specs.declared.focus.Located.the-variants.{Refused, Position, Names}
+use Rattle.load.specs.Load.{Focus, alone}
+use Rattle.load.specs.Sound.{Sound}
+use Rattle.recorded.specs.Recorded.{positionOf}
+use Rattle.named.specs.Named.{namedOutcome}
 
 -- an accepted value is handed on, a refusal stays
 abbrev pub andThen : {A B : Type 0} → Outcome A → (A → Outcome B) → Outcome B
@@ -41,16 +36,6 @@ pointOf r = record { number = 0; center = r .center; size = r .area; «in_focus�
 -- "Recorded position, if no side of frame or area is zero"
 unfoldable pub recordsPosition : FocusRecord → Bool
 recordsPosition r = not (hasZeroSide (r .frame)) && not (hasZeroSide (r .area))
-
--- one point, the primary, as recorded
-abbrev pub alone : Size → FocusPoint → FocusAreaMode → Outcome Focus
-alone f p m = accepted (record { frame = f; points = p ∷ []; primary = 0; mode = m; origin = Recorded })
-
--- what the code's answer means in 01's numbers
-abbrev pub locatedMeans : Located → Outcome Focus
-locatedMeans (Refused why) = refused (refusalNumber why)
-locatedMeans (Position f p m) = alone f p m
-locatedMeans (Names w primary mask m) = placedIn (accepted w) primary mask m
 
 -- "recorded position cannot be placed": 5; "no recorded position and named points cannot be placed": 6
 unfoldable pub placedOf : FocusRecord → Crop → CropArea → OptionalSize → List ℕ → Outcome Focus

@@ -1,11 +1,10 @@
 // One load: from a lent block, the two sizes and the model to focus points.
-use crate::focus::FocusAnswer;
-use crate::focus::FocusOrigin;
-use crate::focus::FocusPoints;
-use crate::focus::Located;
-use crate::focus::Refusal;
-use crate::recorded::Position;
 use fitting::focus::FocusPoint;
+use load::focus::FocusAnswer;
+use load::focus::FocusOrigin;
+use load::focus::FocusPoints;
+use load::focus::Located;
+use load::focus::Refusal;
 use reading::focus::FocusAreaMode;
 use reading::geometry::OptionalSize;
 use reading::geometry::Size;
@@ -13,11 +12,13 @@ use reading::nikon::AfInfo2;
 use reading::nikon::Crop;
 use reading::nikon::CropArea;
 use reading::nikon::FocusRecord;
+use recorded::Position;
 use tiff::ifd::Block;
 use tiff::io::ByteOrder;
 ghost use mathlib.Core.Path.{_≡_};
-ghost use Rattle.placing.specs.Load.{laidOut};
-ghost use Rattle.placing.specs.Focus.{pointOf, recordsPosition, alone, locatedMeans, placedOf, focusIn, focusOf};
+ghost use Rattle.load.specs.Load.{laidOut, alone};
+ghost use Rattle.placing.specs.Focus.{pointOf, recordsPosition, placedOf, focusIn, focusOf};
+ghost use Rattle.named.specs.Named.{locatedMeans};
 
 // The point that a record's position is.
 fn point_of(recorded: FocusRecord) -> FocusPoint
@@ -50,7 +51,7 @@ fn records_position(recorded: FocusRecord) -> bool
 fn alone_in(frame: Size, point: FocusPoint, mode: FocusAreaMode) -> FocusPoints
     ensures { λ r. ⌜ r ≡ laidOut (alone frame point mode) ⌝ }
 {
-    let mut points = crate::focus::no_places();
+    let mut points = load::focus::no_places();
     points[0] = point;
     FocusPoints {
         answer: FocusAnswer::Placed,
@@ -76,10 +77,10 @@ fn located_record(
     let mode = recorded.area_mode;
     if !records_position(recorded) {
         let named = recorded.named;
-        return crate::named::located(named, model, crop, picture, mode);
+        return named::located(named, model, crop, picture, mode);
     }
     let frame = recorded.frame;
-    match crate::recorded::in_crop(point_of(recorded), frame, crop, area, picture) {
+    match recorded::in_crop(point_of(recorded), frame, crop, area, picture) {
         Position::Placed {
             frame: place,
             point,
@@ -136,13 +137,13 @@ pub fn focus(block: &[u8], raw: OptionalSize, picture: OptionalSize, model: &[u8
     ensures { λ r. ⌜ r ≡ laidOut (focusOf (now (block .entry)) raw picture (now (model .entry))) ⌝ }
 {
     match located(block, raw, picture, model) {
-        Located::Refused(why) => crate::focus::no_points(why),
+        Located::Refused(why) => load::focus::no_points(why),
         Located::Position { frame, point, mode } => alone_in(frame, point, mode),
         Located::Names {
             window,
             primary,
             mask,
             mode,
-        } => crate::named::placed_in(window, primary, mask, mode),
+        } => named::placed_in(window, primary, mask, mode),
     }
 }

@@ -4,8 +4,8 @@
 use fitting::focus::FocusPoint;
 use libc::STDIN_FILENO;
 use libc::STDOUT_FILENO;
-use placing::focus::FocusAnswer;
-use placing::focus::FocusPoints;
+use load::focus::FocusAnswer;
+use load::focus::FocusPoints;
 use reading::geometry::OptionalSize;
 use reading::geometry::Size;
 use tiff::io::ByteOrder;
@@ -55,7 +55,7 @@ fn print_placed(f: FocusPoints) {
     number(b" points ", (f.count % 64) as u32);
     number(b" primary ", (f.primary % 64) as u32);
     number(b" mode ", reading::focus::mode_number(mode));
-    number(b" origin ", placing::focus::origin_number(origin));
+    number(b" origin ", load::focus::origin_number(origin));
     print_points(points, f.count);
 }
 
@@ -86,7 +86,7 @@ fn answer(load: &[u8]) {
     let f = placing::nikon::focus(block, raw, picture, model);
     let how = f.answer;
     match how {
-        FocusAnswer::Refused(why) => number(b"no ", placing::focus::refusal_number(why)),
+        FocusAnswer::Refused(why) => number(b"no ", load::focus::refusal_number(why)),
         FocusAnswer::Placed => print_placed(f),
     }
     text(b"\n");

@@ -22,7 +22,7 @@ use Rattle.reading.specs.declared.geometry.OptionalSize.{OptionalSize}
 use Rattle.reading.specs.declared.nikon.TagList.{TagList}
 use Rattle.reading.specs.declared.nikon.ContentsAnswer.the-variants as contents-answers
 use Rattle.fitting.specs.Fit.{hasZeroSide}
-use Rattle.placing.specs.Load.{originNumber}
+use Rattle.load.specs.Load.{originNumber}
 use Rattle.placing.specs.Focus.{focusOf}
 use Rattle.calls.specs.declared.Call.{Call as Parsed}
 use Rattle.calls.specs.Format.{callOf}
@@ -33,7 +33,7 @@ use Rattle.sheet.specs.declared.list.Listing.{Listing}
 use Rattle.sheet.specs.declared.list.ListAnswer.{ListAnswer}
 use Rattle.sheet.specs.declared.list.ListAnswer.the-variants.{Short, Listed}
 use Rattle.sheet.specs.Sheet.{usable, editNumber, loadNumber, loadSheet, presentFrame}
-use Rattle.sheet.specs.Listing.{listNumber, headNumbers, listing, listed, listCount, listIndex, isShort, headIn, listAnswer, listBuffer, fitAnswer, fitBuffer}
+use Rattle.sheet.specs.Listing.{listNumber, headNumbers, listed, listCount, listIndex, isShort, headIn, listAnswer, listBuffer, fitAnswer, fitBuffer}
 use Rattle.sheet.proofs.Listed.{listing-length}
 use Rattle.sheet.proofs.Usable.{usable-told}
 use Rattle.journal.specs.Journal.{Answer}

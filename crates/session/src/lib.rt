@@ -12,14 +12,13 @@ use sheet::list::Listing;
 ghost use mathlib.Core.Path.{_≡_};
 ghost use mathlib.Core.List.{[]};
 ghost use Prim.Native.Nat.{_≤_};
-ghost use lib.ListN.{length, replicate};
+ghost use lib.ListN.{length};
 ghost use Rattle.text.specs.Put.{Put};
-ghost use Rattle.reading.specs.Contents.{contentsOf};
 ghost use Rattle.sheet.specs.Listing.{listNumber, headNumbers};
-ghost use Rattle.journal.specs.Calls.{load, list, fit, change, back, numbered, given, afterEdit, afterLoad};
+ghost use Rattle.journal.specs.Calls.{load, list, fit, back, numbered, given, afterEdit};
 ghost use Rattle.journal.specs.Journal.{cut};
-ghost use Rattle.calls.specs.Format.{modelPart, blockPart, contentsPart};
-ghost use Rattle.session.specs.Lines.{Spelled, malformed, spelled, spelledIn, contents, asks, lentBuffer, givenText, outcomeText, answerText, tagListText, mostText, Answers, fewPoints};
+ghost use Rattle.calls.specs.Format.{modelPart, blockPart};
+ghost use Rattle.session.specs.Lines.{malformed, spelled, spelledIn, contents, asks, lentBuffer, givenText, outcomeText, answerText, mostText, Answers, fewPoints};
 
 // A sheet after a line, and the place after its answer.
 pub struct Stepped {
@@ -51,7 +50,7 @@ fn head_numbers(l: Listing) -> [u32; 6]
         l.count as u32,
         l.index as u32,
         reading::focus::mode_number(mode),
-        placing::focus::origin_number(origin),
+        load::focus::origin_number(origin),
     ]
 }
 

@@ -10,7 +10,7 @@ use lib.Dec.{leb}
 use borrow.Author.Tests.{leb-true, leb-false, le-leb, lt-leb, not-true, not-false}
 use native.Mathlib.Numerals.{add-one}
 use Rattle.fitting.specs.declared.focus.FocusPoint.{FocusPoint}
-use Rattle.placing.specs.Load.{noPoint}
+use Rattle.load.specs.Load.{noPoint}
 use Rattle.sheet.specs.Listing.{six, flat, over, hasRoom, withPoints}
 
 pub six-length : (p : FocusPoint) → length (six p) ≡ 6

@@ -7,7 +7,7 @@ use lib.ListN.{length, set, length-append}
 use native.Mathlib.Omega.{arith}
 use native.Mathlib.Numerals.{add-one}
 use Rattle.fitting.specs.declared.focus.FocusPoint.{FocusPoint}
-use Rattle.placing.specs.Load.{places}
+use Rattle.load.specs.Load.{places}
 use Rattle.sheet.specs.declared.edit.Placed.{Placed}
 use Rattle.sheet.specs.declared.Sheet.{Sheet}
 use Rattle.sheet.specs.declared.list.Row.{Row}

@@ -6,7 +6,7 @@ use lib.ListN.{length, take, set, replicate, length-append, length-replicate}
 use lib.Seq.{take-at, set-at, append-snoc}
 use native.Mathlib.Omega.{arith}
 use Rattle.fitting.specs.declared.focus.FocusPoint.{FocusPoint}
-use Rattle.placing.specs.Load.{noPoint, places}
+use Rattle.load.specs.Load.{noPoint, places}
 
 pub length-places : (ps : List FocusPoint) → length ps ≤ 39 → length (places ps) ≡ 39
 unfolding places

@@ -9,7 +9,7 @@ use Rattle.reading.specs.declared.geometry.Size.{Size}
 use Rattle.fitting.specs.declared.focus.FocusPoint.{FocusPoint}
 use Rattle.fitting.specs.Fit.{hasZeroSide}
 use Rattle.fitting.specs.Scale.{scaledPoint}
-use Rattle.placing.specs.Load.{places, originNumber}
+use Rattle.load.specs.Load.{places, originNumber}
 use Rattle.sheet.specs.declared.edit.Placed.{Placed}
 use Rattle.sheet.specs.declared.Sheet.{Sheet}
 use Rattle.sheet.specs.declared.list.Listing.{Listing}

@@ -7,9 +7,8 @@ use lib.ListN.{getD}
 use Rattle.reading.specs.declared.geometry.Size.{Size}
 use Rattle.reading.specs.declared.geometry.Point.{Point}
 use Rattle.fitting.specs.declared.focus.FocusPoint.{FocusPoint}
-use Rattle.fitting.specs.Fit.{pointFits}
+use Rattle.fitting.specs.Fit.{pointFits, by}
 use Rattle.fitting.specs.Laws.{swapped}
-use Rattle.placing.specs.Points.{by}
 use Rattle.sheet.specs.declared.edit.Edit.{Edit}
 use Rattle.sheet.specs.declared.edit.Edit.the-variants.{Turn, Mirror, Cut}
 use Rattle.sheet.specs.declared.edit.Placed.{Placed}

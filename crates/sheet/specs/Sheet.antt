@@ -8,10 +8,10 @@ use lib.Seq.{sets}
 use Rattle.tiff.specs.Outcome.{Outcome, refused, accepted}
 use Rattle.reading.specs.declared.geometry.Size.{Size}
 use Rattle.reading.specs.declared.focus.FocusAreaMode.the-variants.{Unnamed}
-use Rattle.placing.specs.declared.focus.FocusOrigin.the-variants.{Recorded}
-use Rattle.placing.specs.declared.focus.FocusAnswer.{FocusAnswer}
-use Rattle.placing.specs.declared.focus.FocusAnswer.the-variants as load
-use Rattle.placing.specs.Load.{Focus, noPoint, places, refusalOf, refusalNumber}
+use Rattle.load.specs.declared.focus.FocusOrigin.the-variants.{Recorded}
+use Rattle.load.specs.declared.focus.FocusAnswer.{FocusAnswer}
+use Rattle.load.specs.declared.focus.FocusAnswer.the-variants as load
+use Rattle.load.specs.Load.{Focus, noPoint, places, refusalOf, refusalNumber}
 use Rattle.sheet.specs.declared.edit.Edit.{Edit}
 use Rattle.sheet.specs.declared.edit.Edit.the-variants.{Turn, Mirror, Cut}
 use Rattle.sheet.specs.declared.edit.Placed.{Placed}
@@ -20,7 +20,7 @@ use Rattle.sheet.specs.declared.EditAnswer.{EditAnswer}
 use Rattle.sheet.specs.declared.EditAnswer.the-variants.{Accepted, Empty, Full, BadCut, DropsPrimary, NothingStands}
 use Rattle.sheet.specs.declared.Edited.{Edited}
 use Rattle.sheet.specs.declared.Loaded.{Loaded}
-use Rattle.placing.specs.Points.{by}
+use Rattle.fitting.specs.Fit.{by}
 use Rattle.sheet.specs.Place.{wordsOf, moved, placed}
 
 -- 01's number for each way in which an edit or back ends, 0 for accepted

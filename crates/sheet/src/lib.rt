@@ -3,8 +3,8 @@
 use edit::Edit;
 use edit::Placed;
 use fitting::focus::FocusPoint;
-use placing::focus::FocusAnswer;
-use placing::focus::FocusOrigin;
+use load::focus::FocusAnswer;
+use load::focus::FocusOrigin;
 use reading::focus::FocusAreaMode;
 use reading::geometry::OptionalSize;
 use reading::geometry::Size;
@@ -75,7 +75,7 @@ pub fn load_number(answer: FocusAnswer) -> u32
 {
     match answer {
         FocusAnswer::Placed => 0,
-        FocusAnswer::Refused(why) => placing::focus::refusal_number(why),
+        FocusAnswer::Refused(why) => load::focus::refusal_number(why),
     }
 }
 
@@ -84,7 +84,7 @@ impl Sheet {
     pub fn new() -> Sheet
         ensures { λ r. ⌜ r ≡ freshSheet ⌝ }
     {
-        let points = placing::focus::no_places();
+        let points = load::focus::no_places();
         let edits = [0u32; 320];
         Sheet {
             loaded: false,

@@ -1,7 +1,7 @@
 // The listing of the points where the standing edits leave them, and in another frame.
 use crate::Sheet;
 use fitting::focus::FocusPoint;
-use placing::focus::FocusOrigin;
+use load::focus::FocusOrigin;
 use reading::focus::FocusAreaMode;
 use reading::geometry::Size;
 ghost use mathlib.Core.Path.{_≡_};
@@ -109,7 +109,7 @@ fn scaled_points(points: [FocusPoint; 39], n: usize, old: Size, new: Size) -> [F
 fn empty_row() -> Row
     ensures { λ r. ⌜ r ≡ rowOf [] ⌝ }
 {
-    let points = placing::focus::no_places();
+    let points = load::focus::no_places();
     Row { points, count: 0 }
 }
 

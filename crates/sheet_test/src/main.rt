@@ -14,7 +14,6 @@ use sheet::list::ListAnswer;
 use sheet::list::Listing;
 use tiff::io::ByteOrder;
 ghost use mathlib.Core.Path.{_≡_};
-ghost use Prim.Native.Nat.{_≤_};
 ghost use lib.ListN.{length};
 
 fn text(s: &[u8]) {
@@ -60,7 +59,7 @@ fn print_head(l: Listing) {
     number(b" points ", (l.count % 64) as u32);
     number(b" primary ", (l.index % 64) as u32);
     number(b" mode ", reading::focus::mode_number(mode));
-    number(b" origin ", placing::focus::origin_number(origin));
+    number(b" origin ", load::focus::origin_number(origin));
 }
 
 fn print_list(a: ListAnswer) {

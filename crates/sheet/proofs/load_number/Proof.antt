@@ -1,10 +1,10 @@
 -- `load_number`: 0, or what `refusal_number` ensures. Assumes nothing.
-use mathlib.Core.Path.{_≡_, refl, _∙_}
+use mathlib.Core.Path.{_≡_}
 use Prim.Native.Nat.{ℕ}
-use Rattle.placing.specs.declared.focus.FocusAnswer.{FocusAnswer}
-use Rattle.placing.specs.declared.focus.FocusAnswer.the-variants.{Refused}
-use Rattle.placing.specs.declared.focus.Refusal.{Refusal}
-use Rattle.placing.specs.Load.{refusalNumber}
+use Rattle.load.specs.declared.focus.FocusAnswer.{FocusAnswer}
+use Rattle.load.specs.declared.focus.FocusAnswer.the-variants.{Refused}
+use Rattle.load.specs.declared.focus.Refusal.{Refusal}
+use Rattle.load.specs.Load.{refusalNumber}
 use Rattle.sheet.specs.Sheet.{loadNumber}
 use borrow.Author.Needs.{needs}
 use Rattle.sheet.proofs.load_number.Statement.{statement}

@@ -1,15 +1,14 @@
 -- `nikon::alone_in`: one point at the front of 39 places. Assumes nothing.
-use mathlib.Core.Path.{_≡_, refl}
+use mathlib.Core.Path.{_≡_}
 use mathlib.Core.List.{List}
 use lib.ListN.{set, replicate}
 use Rattle.reading.specs.declared.geometry.Size.{Size}
 use Rattle.reading.specs.declared.focus.FocusAreaMode.{FocusAreaMode}
 use Rattle.fitting.specs.declared.focus.FocusPoint.{FocusPoint}
-use Rattle.placing.specs.Load.{laidOut, places, noPoint}
-use Rattle.placing.specs.Focus.{alone}
-use Rattle.placing.specs.declared.focus.FocusOrigin.the-variants.{Recorded}
-use Rattle.placing.specs.declared.focus.FocusAnswer.the-variants.{Placed}
-use Rattle.placing.specs.declared.focus.FocusPoints.{FocusPoints}
+use Rattle.load.specs.Load.{laidOut, places, noPoint, alone}
+use Rattle.load.specs.declared.focus.FocusOrigin.the-variants.{Recorded}
+use Rattle.load.specs.declared.focus.FocusAnswer.the-variants.{Placed}
+use Rattle.load.specs.declared.focus.FocusPoints.{FocusPoints}
 use borrow.Author.Needs.{needs}
 use Rattle.placing.proofs.nikon.alone_in.Statement.{statement}
 use Rattle.placing.proofs.nikon.alone_in.Tie as tie

@@ -5,17 +5,15 @@ use Rattle.tiff.specs.Outcome.{Outcome, accepted}
 use Rattle.reading.specs.declared.geometry.Size.{Size}
 use Rattle.reading.specs.declared.focus.FocusAreaMode.{FocusAreaMode}
 use Rattle.fitting.specs.declared.focus.FocusPoint.{FocusPoint}
-use Rattle.placing.specs.Load.{Focus, laidOut, refusedBy, refusalNumber, refusalOf}
-use Rattle.placing.specs.Named.{placedIn}
-use Rattle.placing.specs.Focus.{alone, locatedMeans}
-use Rattle.placing.specs.declared.focus.FocusPoints.{FocusPoints}
-use Rattle.placing.specs.declared.focus.Refusal.{Refusal}
-use Rattle.placing.specs.declared.focus.Refusal.the-variants.{Unreadable, Missing, Manual, Unusable, Unplaced, Unnamed}
-use Rattle.placing.specs.declared.focus.Located.{Located}
-use Rattle.placing.specs.declared.focus.Located.the-variants.{Refused, Position, Names}
-use Rattle.placing.specs.declared.named.Window.{Window}
+use Rattle.load.specs.Load.{Focus, laidOut, refusedBy, refusalNumber, refusalOf, alone}
+use Rattle.named.specs.Named.{placedIn, locatedMeans}
+use Rattle.load.specs.declared.focus.FocusPoints.{FocusPoints}
+use Rattle.load.specs.declared.focus.Refusal.{Refusal}
+use Rattle.load.specs.declared.focus.Refusal.the-variants.{Unreadable, Missing, Manual, Unusable, Unplaced, Unnamed}
+use Rattle.load.specs.declared.focus.Located.{Located}
+use Rattle.load.specs.declared.focus.Located.the-variants.{Refused, Position, Names}
+use Rattle.load.specs.declared.focus.Window.{Window}
 -- a refusal is the one that has its number
-use borrow.Author.Needs.{needs}
 use borrow.Author.Needs.{needs}
 use Rattle.placing.proofs.nikon.focus.Statement.{statement}
 use Rattle.placing.proofs.nikon.focus.Tie as tie

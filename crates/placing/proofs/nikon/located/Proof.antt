@@ -9,11 +9,11 @@ use Rattle.tiff.specs.declared.io.ByteOrder.{ByteOrder}
 use Rattle.reading.specs.declared.geometry.OptionalSize.{OptionalSize}
 use Rattle.tiff.specs.declared.ifd.Block.{Block}
 use Rattle.tiff.specs.declared.ifd.Block.the-variants.{Unreadable, Readable}
-use Rattle.placing.specs.Load.{Focus, refusalNumber}
-use Rattle.placing.specs.Focus.{locatedMeans, focusOf, focusIn}
-use Rattle.placing.specs.declared.focus.Refusal.the-variants as why
-use Rattle.placing.specs.declared.focus.Located.the-variants.{Refused}
-use borrow.Author.Needs.{needs}
+use Rattle.load.specs.Load.{Focus, refusalNumber}
+use Rattle.named.specs.Named.{locatedMeans}
+use Rattle.placing.specs.Focus.{focusOf, focusIn}
+use Rattle.load.specs.declared.focus.Refusal.the-variants as why
+use Rattle.load.specs.declared.focus.Located.the-variants.{Refused}
 use borrow.Author.Needs.{needs}
 use Rattle.placing.proofs.nikon.located.Statement.{statement}
 use Rattle.placing.proofs.nikon.located.Tie as tie

@@ -14,12 +14,12 @@ use Rattle.reading.specs.declared.nikon.CropArea.{CropArea}
 use Rattle.reading.specs.declared.nikon.FocusRecord.{FocusRecord}
 use Rattle.reading.specs.declared.nikon.AfInfo2.{AfInfo2}
 use Rattle.reading.specs.declared.nikon.AfInfo2.the-variants.{Missing, Unusable, Recorded}
-use Rattle.placing.specs.Load.{Focus, refusalNumber}
-use Rattle.placing.specs.Focus.{locatedMeans, focusIn, placedOf, refusedToo}
-use Rattle.placing.specs.declared.focus.Refusal.the-variants as why
-use Rattle.placing.specs.declared.focus.Located.the-variants.{Refused}
+use Rattle.load.specs.Load.{Focus, refusalNumber}
+use Rattle.named.specs.Named.{locatedMeans}
+use Rattle.placing.specs.Focus.{focusIn, placedOf, refusedToo}
+use Rattle.load.specs.declared.focus.Refusal.the-variants as why
+use Rattle.load.specs.declared.focus.Located.the-variants.{Refused}
 -- a missing record is refused before FocusMode is looked at
-use borrow.Author.Needs.{needs}
 use borrow.Author.Needs.{needs}
 use Rattle.placing.proofs.nikon.located_in.Statement.{statement}
 use Rattle.placing.proofs.nikon.located_in.Tie as tie

@@ -12,15 +12,14 @@ use Rattle.reading.specs.declared.nikon.Crop.{Crop}
 use Rattle.reading.specs.declared.nikon.CropArea.{CropArea}
 use Rattle.reading.specs.declared.nikon.FocusRecord.{FocusRecord}
 use Rattle.fitting.specs.declared.focus.FocusPoint.{FocusPoint}
-use Rattle.placing.specs.Load.{Focus, refusalNumber}
-use Rattle.placing.specs.Recorded.{positionOf, positionMeans}
-use Rattle.placing.specs.Named.{namedOutcome}
-use Rattle.placing.specs.Focus.{placedOf, recordsPosition, pointOf, locatedMeans}
-use Rattle.placing.specs.declared.focus.Refusal.the-variants as why
-use Rattle.placing.specs.declared.focus.Located.the-variants as at
-use Rattle.placing.specs.declared.recorded.Position.{Position}
-use Rattle.placing.specs.declared.recorded.Position.the-variants.{Unplaced, Placed}
-use borrow.Author.Needs.{needs}
+use Rattle.load.specs.Load.{Focus, refusalNumber}
+use Rattle.recorded.specs.Recorded.{positionOf, positionMeans}
+use Rattle.named.specs.Named.{namedOutcome, locatedMeans}
+use Rattle.placing.specs.Focus.{placedOf, recordsPosition, pointOf}
+use Rattle.load.specs.declared.focus.Refusal.the-variants as why
+use Rattle.load.specs.declared.focus.Located.the-variants as at
+use Rattle.recorded.specs.declared.Position.{Position}
+use Rattle.recorded.specs.declared.Position.the-variants.{Unplaced, Placed}
 use borrow.Author.Needs.{needs}
 use Rattle.placing.proofs.nikon.located_record.Statement.{statement}
 use Rattle.placing.proofs.nikon.located_record.Tie as tie

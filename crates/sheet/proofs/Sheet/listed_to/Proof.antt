@@ -4,7 +4,7 @@ use mathlib.Core.Logic.{⊎-elim}
 use Prim.Native.Nat.{_-_, _≤_}
 use native.Mathlib.Omega.{arith}
 use lib.ListN.{length}
-use Rattle.placing.specs.Load.{places}
+use Rattle.load.specs.Load.{places}
 use Rattle.sheet.specs.declared.list.Row.{Row}
 use Rattle.sheet.specs.Sheet.{placedAt}
 use Rattle.sheet.specs.Listing.{listing}

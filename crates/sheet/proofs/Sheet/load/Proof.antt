@@ -5,11 +5,11 @@ use Prim.Native.Nat.{ℕ}
 use native.Mathlib.Omega.{arith}
 use lib.ListN.{replicate}
 use Rattle.tiff.specs.Outcome.{Outcome, refused, accepted}
-use Rattle.placing.specs.declared.focus.Refusal.{Refusal}
-use Rattle.placing.specs.declared.focus.FocusAnswer.{FocusAnswer}
-use Rattle.placing.specs.declared.focus.FocusAnswer.the-variants.{Placed, Refused}
-use Rattle.placing.specs.declared.focus.FocusPoints.{FocusPoints}
-use Rattle.placing.specs.Load.{Focus, refusalOf, refusedBy, laidOut}
+use Rattle.load.specs.declared.focus.Refusal.{Refusal}
+use Rattle.load.specs.declared.focus.FocusAnswer.{FocusAnswer}
+use Rattle.load.specs.declared.focus.FocusAnswer.the-variants.{Placed, Refused}
+use Rattle.load.specs.declared.focus.FocusPoints.{FocusPoints}
+use Rattle.load.specs.Load.{Focus, refusalOf, refusedBy, laidOut}
 use Rattle.sheet.specs.declared.Sheet.{Sheet}
 use Rattle.sheet.specs.Sheet.{loaded, loadedSheet, loadSheet}
 use borrow.Author.Needs.{needs}

@@ -5,10 +5,10 @@ use mathlib.Core.List.{List}
 use lib.ListN.{replicate}
 use Rattle.reading.specs.declared.focus.FocusAreaMode.the-variants.{Unnamed}
 use Rattle.fitting.specs.declared.focus.FocusPoint.{FocusPoint}
-use Rattle.placing.specs.declared.focus.FocusOrigin.the-variants.{Recorded}
-use Rattle.placing.specs.Load.{noPoint}
+use Rattle.load.specs.declared.focus.FocusOrigin.the-variants.{Recorded}
+use Rattle.load.specs.Load.{noPoint}
 use Rattle.sheet.specs.declared.Sheet.{Sheet}
-use Rattle.placing.specs.Points.{by}
+use Rattle.fitting.specs.Fit.{by}
 use Rattle.sheet.specs.Sheet.{freshSheet}
 use borrow.Author.Needs.{needs}
 use Rattle.sheet.proofs.Sheet.new.Statement.{statement}

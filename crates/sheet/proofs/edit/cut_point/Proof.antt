@@ -4,7 +4,7 @@ use mathlib.Core.Bool.{Bool, _&&_}
 use Prim.Native.Nat.{ℕ}
 use Rattle.fitting.specs.declared.focus.FocusPoint.{FocusPoint}
 use Rattle.sheet.specs.declared.edit.Placed.{Placed}
-use Rattle.placing.specs.Points.{by}
+use Rattle.fitting.specs.Fit.{by}
 use Rattle.sheet.specs.Place.{shiftedPoint, staysOn, cutPoint}
 use borrow.Author.Needs.{needs}
 use Rattle.sheet.proofs.edit.cut_point.Statement.{statement}

@@ -4,8 +4,7 @@ use mathlib.Core.Bool.{Bool, false}
 use Prim.Native.Nat.{ℕ, _<_, _≤_}
 use borrow.Author.Tests.{le-leb, lt-leb}
 use Rattle.fitting.specs.declared.focus.FocusPoint.{FocusPoint}
-use Rattle.fitting.specs.Fit.{pointFits}
-use Rattle.placing.specs.Points.{by}
+use Rattle.fitting.specs.Fit.{pointFits, by}
 use Rattle.sheet.specs.Place.{shiftedPoint, staysOn}
 use borrow.Author.Needs.{needs}
 use Rattle.sheet.proofs.edit.stays_on.Statement.{statement}

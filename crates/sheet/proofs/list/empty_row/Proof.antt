@@ -3,7 +3,7 @@ use mathlib.Core.Path.{_≡_}
 use mathlib.Core.List.{List, []}
 use lib.ListN.{replicate}
 use Rattle.fitting.specs.declared.focus.FocusPoint.{FocusPoint}
-use Rattle.placing.specs.Load.{noPoint, places}
+use Rattle.load.specs.Load.{noPoint, places}
 use Rattle.sheet.specs.declared.list.Row.{Row}
 use Rattle.sheet.specs.Listing.{rowOf}
 use borrow.Author.Needs.{needs}

@@ -9,7 +9,7 @@ use lib.Seq.{take-suc, drop-cons, set-at, append-snoc, length-take-le}
 use Rattle.reading.specs.declared.geometry.Size.{Size}
 use Rattle.fitting.specs.declared.focus.FocusPoint.{FocusPoint}
 use Rattle.fitting.specs.Scale.{scaledPoint}
-use Rattle.placing.specs.Load.{noPoint}
+use Rattle.load.specs.Load.{noPoint}
 use Rattle.sheet.specs.Listing.{scaledAll}
 use borrow.Author.Needs.{needs}
 use Rattle.sheet.proofs.list.scaled_points.Statement.{statement}

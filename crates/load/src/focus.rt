@@ -1,0 +1,125 @@
+// The points of one load, or why there are none.
+use fitting::focus::FocusPoint;
+use reading::focus::FocusAreaMode;
+use reading::focus::InFocus;
+use reading::geometry::Point;
+use reading::geometry::Size;
+ghost use mathlib.Core.Path.{_≡_};
+ghost use lib.ListN.{replicate};
+ghost use Rattle.load.specs.Load.{noPoint, originNumber, refusalNumber, refusedBy};
+
+// Where points come from: the record's own position, or the table of the body's points.
+pub enum FocusOrigin {
+    Recorded,
+    Table,
+}
+
+// Why a load gives no points: 01's numbers 1 to 6, in this order.
+pub enum Refusal {
+    Unreadable,
+    Missing,
+    Manual,
+    Unusable,
+    Unplaced,
+    Unnamed,
+}
+
+// How a load ends.
+pub enum FocusAnswer {
+    Placed,
+    Refused(Refusal),
+}
+
+// A part of the table's frame: the frame that points are placed in, and where it starts.
+pub struct Window {
+    pub frame: Size,
+    pub origin: Point,
+}
+
+// Where the points of a load are: nowhere, as it is refused; one recorded position in its frame; or the points that a
+// primary and a mask name in a window of the table's frame.
+pub enum Located {
+    Refused(Refusal),
+    Position {
+        frame: Size,
+        point: FocusPoint,
+        mode: FocusAreaMode,
+    },
+    Names {
+        window: Window,
+        primary: u32,
+        mask: u64,
+        mode: FocusAreaMode,
+    },
+}
+
+// The points of one load in their frame, of which the first `count` places hold one each and `primary` is the index of
+// the primary. Everything is zero where the load is refused.
+pub struct FocusPoints {
+    pub answer: FocusAnswer,
+    pub frame: Size,
+    pub points: [FocusPoint; 39],
+    pub count: usize,
+    pub primary: usize,
+    pub area_mode: FocusAreaMode,
+    pub origin: FocusOrigin,
+}
+
+// 39 places with no point in them.
+pub fn no_places() -> [FocusPoint; 39]
+    ensures { λ r. ⌜ r ≡ replicate 39 noPoint ⌝ }
+{
+    let p = FocusPoint {
+        number: 0,
+        center: Point { x: 0, y: 0 },
+        size: Size {
+            width: 0,
+            height: 0,
+        },
+        in_focus: InFocus::Unrecorded,
+    };
+    [p; 39]
+}
+
+// A load that is refused.
+pub fn no_points(why: Refusal) -> FocusPoints
+    ensures { λ r. ⌜ r ≡ refusedBy why ⌝ }
+{
+    let points = no_places();
+    FocusPoints {
+        answer: FocusAnswer::Refused(why),
+        frame: Size {
+            width: 0,
+            height: 0,
+        },
+        points,
+        count: 0,
+        primary: 0,
+        area_mode: FocusAreaMode::Unnamed,
+        origin: FocusOrigin::Recorded,
+    }
+}
+
+// 01's number for where points come from.
+pub fn origin_number(origin: FocusOrigin) -> u32
+    ensures { λ r. ⌜ r ≡ originNumber origin ⌝ }
+{
+    match origin {
+        FocusOrigin::Recorded => 1,
+        FocusOrigin::Table => 2,
+    }
+}
+
+// 01's number for why a load gives no points.
+pub fn refusal_number(why: Refusal) -> u32
+    ensures { λ r. ⌜ r ≡ refusalNumber why ⌝ }
+{
+    match why {
+        Refusal::Unreadable => 1,
+        Refusal::Missing => 2,
+        Refusal::Manual => 3,
+        Refusal::Unusable => 4,
+        Refusal::Unplaced => 5,
+        Refusal::Unnamed => 6,
+    }
+}

@@ -1,0 +1,46 @@
+-- Named points keep the promise of every accepted load. The idea: what is listed in a window was tested to fit it, and the table has no
+-- more points than there are places. Assumes nothing.
+use Prim.Native.Nat.{ℕ}
+use mathlib.Core.Path.{_≡_, refl}
+use mathlib.Core.Bool.{Bool, true, false, cond, _&&_}
+use native.Mathlib.Omega.{arith}
+use lib.Dec.{eqb}
+use Rattle.tiff.specs.Outcome.{Outcome, refused, accepted}
+use Rattle.reading.specs.declared.focus.FocusAreaMode.{FocusAreaMode}
+use Rattle.reading.specs.declared.nikon.NamedPoints.the-variants.{Unnamed, Named}
+use Rattle.load.specs.declared.focus.Window.{Window}
+use Rattle.named.specs.Points.{hasTable, points}
+use Rattle.named.specs.Named.{placedFrame, listed, hasNumber, windowFocus, placedIn, namedOutcome, NamedSound}
+use Rattle.load.specs.Sound.{Sound}
+use Rattle.named.proofs.Frames.{either}
+use Rattle.named.proofs.Listed.{present, listed-room, listed-fit}
+
+module _ (primary mask : ℕ) (mode : FocusAreaMode) where
+  in-window : (w : Window) → Sound (placedIn (accepted w) primary mask mode)
+  unfolding placedIn
+  in-window w = here (hasNumber primary (listed w primary mask)) refl
+    where
+      here : (b : Bool) → hasNumber primary (listed w primary mask) ≡ b →
+          Sound (cond b (accepted (windowFocus w primary mask mode)) (refused 6))
+      here true e =
+          let i = present primary (listed w primary mask) e in
+          record {
+            count-some = omega (arith, i);
+            room = listed-room w primary mask points;
+            primary-in = i;
+            fit = listed-fit w primary mask points;
+          }
+      here false e = tt
+
+  in-frame : (o : Outcome Window) → Sound (placedIn o primary mask mode)
+  unfolding placedIn
+  in-frame (refused n) = tt
+  in-frame (accepted w) = in-window w
+
+pub named-sound : NamedSound
+unfolding namedOutcome
+named-sound Unnamed model crop picture mode = tt
+named-sound (Named code primary mask) model crop picture mode =
+    either Sound (hasTable model && eqb code 3) (placedIn (placedFrame crop picture) primary mask mode) (refused 6)
+    (in-frame primary mask mode (placedFrame crop picture))
+    tt

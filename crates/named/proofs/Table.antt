@@ -1,0 +1,61 @@
+-- The table's rule, by one computed test over all its rows, and the rule at each row. The idea: the test of a list is the test of its
+-- first row and of the rest. Assumes nothing.
+use Prim.Native.Nat.{ℕ, zero, suc, _+_, _<_, _≤_}
+use mathlib.Core.Bool.{true, _&&_}
+use mathlib.Core.List.{List, [], _∷_}
+use mathlib.Core.Path.{_≡_, refl, ap, _∙_}
+use native.Mathlib.Nat.{add-zero}
+use native.Mathlib.Omega.{arith}
+use lib.Dec.{eqb}
+use lib.ListN.{length, getD}
+use borrow.Author.Tests.{eqb-true}
+use Rattle.fitting.proofs.Booleans.{both}
+use Rattle.fitting.specs.Fit.{axisFits, hasZeroSide, centerLiesOn, areaFits, noArea, liesOn, pointFits}
+use Rattle.named.specs.declared.points.TablePoint.{TablePoint}
+use Rattle.named.specs.Points.{points, noTablePoint}
+use Rattle.named.specs.Named.{whole, dx, medium, fitsWindow}
+use Rattle.named.specs.Table.{rowHolds, rowsHold, TableHolds}
+
+pub table-holds : TableHolds
+unfolding rowsHold rowHolds fitsWindow pointFits liesOn centerLiesOn areaFits noArea hasZeroSide axisFits
+table-holds = refl
+
+-- the row at place i of a list whose first number is n
+row-of : (n : ℕ) (ps : List TablePoint) (i : ℕ) → rowsHold n ps ≡ true → i < length ps → rowHolds (n + i) (getD ps i noTablePoint) ≡ true
+unfolding rowsHold
+row-of n [] i e h = absurd (omega arith)
+row-of n (p ∷ ps) zero e h = rw (add-zero n) (both (rowHolds n p) (rowsHold (suc n) ps) e .0)
+row-of n (p ∷ ps) (suc i) e h =
+    let s : suc n + i ≡ n + suc i = omega arith in
+    rw s at (row-of (suc n) ps i (both (rowHolds n p) (rowsHold (suc n) ps) e .1) (omega arith))
+
+pub row-at : (i : ℕ) → i < 39 → rowHolds (1 + i) (getD points i noTablePoint) ≡ true
+row-at i h = row-of 1 points i table-holds h
+
+-- the number at place i is i + 1
+pub number-is : (i : ℕ) → i < 39 → getD points i noTablePoint .number ≡ 1 + i
+unfolding rowHolds
+number-is i h = eqb-true (getD points i noTablePoint .number) (1 + i) (both _ _ (row-at i h) .0)
+
+-- so it is one of 1 to 39
+pub number-at : (p : TablePoint) (i : ℕ) → i < 39 → p ≡ getD points i noTablePoint → (0 < p .number) × (p .number ≤ 39)
+number-at p i h e =
+    let n : p .number ≡ 1 + i = ap (λ (q : TablePoint). q .number) e ∙ number-is i h in
+    (omega arith, omega arith)
+
+-- the point at place i fits each of the windows
+pub record FitsWindows (p : TablePoint) : Type 0 where
+  pub in-whole : fitsWindow whole p ≡ true
+  pub in-dx : fitsWindow dx p ≡ true
+  pub in-medium : fitsWindow medium p ≡ true
+
+pub fits-at : (i : ℕ) → i < 39 → FitsWindows (getD points i noTablePoint)
+unfolding rowHolds
+fits-at i h =
+    let p = getD points i noTablePoint in
+    let windows =
+    both (eqb (p .side) 164) (fitsWindow whole p && (fitsWindow dx p && fitsWindow medium p))
+    (both (eqb (p .number) (1 + i)) _ (row-at i h) .1) .1 in
+    let cuts = both (fitsWindow whole p) (fitsWindow dx p && fitsWindow medium p) windows in
+    let two = both (fitsWindow dx p) (fitsWindow medium p) (cuts .1) in
+    record { in-whole = cuts .0; in-dx = two .0; in-medium = two .1 }
