@@ -21,8 +21,8 @@ use Rattle.placing.specs.Focus.{focusOf}
 use Rattle.load.specs.Load.{Focus, originNumber, refusalNumber, refusalOf, refusedBy, laidOut}
 use Rattle.load.specs.Sound.{Sound, SoundFocus}
 use Rattle.placing.proofs.Sound.{focus-sound}
-use Rattle.sheet.specs.Listing.{headNumbers}
-use Rattle.sheet.proofs.Places.{take-places}
+use Rattle.listing.specs.Listing.{headNumbers}
+use Rattle.load.proofs.Places.{take-places}
 use Rattle.journal.specs.Journal.{frameAfter, listed, numbers, carried}
 use Rattle.journal.proofs.Numbers.{Numbered, number, numbered-load, by-case}
 use Rattle.journal.proofs.Placed.{flat-numbers}

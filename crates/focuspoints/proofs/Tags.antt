@@ -17,7 +17,7 @@ use Rattle.reading.specs.Contents.{Holds, keptTags, listed, ContentsOf, content
 use Rattle.tiff.specs.declared.io.ByteOrder.{ByteOrder}
 use Rattle.reading.specs.declared.nikon.TagList.{TagList}
 use Rattle.reading.specs.declared.nikon.ContentsAnswer.the-variants.{Unreadable, Listed}
-use Rattle.sheet.specs.Listing.{over}
+use Rattle.listing.specs.Listing.{over}
 use Rattle.focuspoints.specs.Buffer.{roomNumber, withNumbers}
 use Rattle.focuspoints.specs.Contents.{contentsNumberOf, contentsBufferOf, Told, tellsIn, Tells}
 

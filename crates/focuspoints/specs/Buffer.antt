@@ -5,7 +5,7 @@ use mathlib.Core.List.{List, _++_}
 use lib.Dec.{ltb}
 use lib.ListN.{length, take}
 use Rattle.load.specs.declared.focus.FocusPoints.{FocusPoints}
-use Rattle.sheet.specs.Listing.{flat, over, headNumbers}
+use Rattle.listing.specs.Listing.{flat, over, headNumbers}
 
 -- 13 where a buffer of `room` places has none for n numbers, else 0
 unfoldable pub roomNumber : ℕ → ℕ → ℕ

@@ -1,12 +1,12 @@
 // A library for C and Rust: one photograph's focus points, a whole script of call lines, and a note's contents. What is exported takes
 // numbers and slices (a pointer and a length each) and asks nothing of what they hold.
+use listing::Listing;
 use load::focus::FocusAnswer;
 use load::focus::FocusPoints;
 use reading::geometry::OptionalSize;
 use reading::geometry::Size;
 use reading::nikon::ContentsAnswer;
 use script::Answered;
-use sheet::list::Listing;
 ghost use mathlib.Core.Path.{_≡_};
 ghost use mathlib.Core.List.{_∷_};
 ghost use Prim.Native.Nat.{_+_, _*_, _≤_};
@@ -14,7 +14,7 @@ ghost use lib.ListN.{length};
 ghost use Rattle.tiff.specs.Block.{blockOf};
 ghost use Rattle.reading.specs.Contents.{contentsOf};
 ghost use Rattle.placing.specs.Focus.{focusOf};
-ghost use Rattle.sheet.specs.Listing.{over, headNumbers};
+ghost use Rattle.listing.specs.Listing.{over, headNumbers};
 ghost use Rattle.script.specs.Script.{scriptText, bufferWith};
 ghost use Rattle.focuspoints.specs.Photograph.{sizeOf, photographNumber, photographBuffer};
 ghost use Rattle.focuspoints.specs.Script.{scriptLength};
@@ -57,7 +57,7 @@ fn put_listing(focus: FocusPoints, out: &mut [u32]) -> u32
     }
     let points = focus.points;
     let count = focus.count;
-    if !sheet::list::write_points(points, count, &mut out[6..]) {
+    if !listing::write_points(points, count, &mut out[6..]) {
         return 13;
     }
     let frame = focus.frame;

@@ -23,19 +23,23 @@ use Rattle.placing.specs.Focus.{focusOf}
 use Rattle.load.specs.Load.{Focus, noPoint, refusalOf, refusalNumber}
 use Rattle.load.specs.Sound.{Sound}
 use Rattle.placing.proofs.Sound.{focus-sound}
-use Rattle.sheet.specs.declared.edit.Edit.{Edit}
-use Rattle.sheet.specs.declared.edit.Edit.the-variants.{Cut, Turn, Mirror}
-use Rattle.sheet.specs.declared.edit.Placed.{Placed}
-use Rattle.sheet.specs.declared.EditAnswer.{EditAnswer}
-use Rattle.sheet.specs.declared.EditAnswer.the-variants.{Accepted, Full, BadCut, DropsPrimary, NothingStands}
-use Rattle.sheet.specs.declared.list.ListAnswer.the-variants as answers
+use Rattle.edits.specs.declared.Edit.{Edit}
+use Rattle.edits.specs.declared.Edit.the-variants.{Cut, Turn, Mirror}
+use Rattle.edits.specs.declared.Placed.{Placed}
+use Rattle.edits.specs.declared.EditAnswer.{EditAnswer}
+use Rattle.edits.specs.declared.EditAnswer.the-variants.{Accepted, Full, BadCut, DropsPrimary, NothingStands}
+use Rattle.listing.specs.declared.ListAnswer.the-variants as answers
 use Rattle.sheet.specs.declared.Sheet.{Sheet}
-use Rattle.sheet.specs.Place.{wordsOf, moved, placed}
-use Rattle.sheet.specs.Sheet.{editNumber, loadNumber, edited, freshSheet, loadedSheet, loadSheet, usable, placedAt, presentFrame as frameOf, withEdits, addEdit, ifOpen, turnSheet, mirrorSheet, cutPasses, keepsPrimary, cutSheet, backSheet}
-use Rattle.sheet.specs.Listing.{listNumber, headNumbers, listed as listedOf, listCount, listIndex, isShort, headIn, listAnswer, listBuffer, scaledAll, fitAnswer, fitBuffer, flat}
-use Rattle.sheet.proofs.Buffer.{flat-length}
-use Rattle.sheet.proofs.Places.{length-places, take-places}
-use Rattle.sheet.proofs.Words.{stored-last}
+use Rattle.edits.specs.Place.{wordsOf, moved, placed}
+use Rattle.edits.specs.Answer.{editNumber}
+use Rattle.load.specs.Load.{loadNumber}
+use Rattle.sheet.specs.Sheet.{edited, freshSheet, loadedSheet, loadSheet, usable, placedAt, presentFrame as frameOf, withEdits, addEdit, ifOpen, turnSheet, mirrorSheet, keepsPrimary, cutSheet, backSheet}
+use Rattle.edits.specs.Place.{cutPasses}
+use Rattle.listing.specs.Listing.{listNumber, headNumbers, flat}
+use Rattle.sheet.specs.Listing.{listed as listedOf, listCount, listIndex, isShort, headIn, listAnswer, listBuffer, scaledAll, fitAnswer, fitBuffer}
+use Rattle.listing.proofs.Buffer.{flat-length}
+use Rattle.load.proofs.Places.{length-places, take-places}
+use Rattle.edits.proofs.Words.{stored-last}
 use Rattle.journal.specs.Journal.{Change, cut, turn, mirror, Journal, empty, holds, frameAfter, isListed, listed, presentFrame, listing, indexOf, primaryAfter, fitted, Answer, no, ok, ended, head, isBadCut, isFull, changeRefusal, backRefusal, journalLoad, journalChange, journalBack, numbers, written, journalList, journalFit}
 use Rattle.journal.specs.Calls.{Call, load, change, back, list, fit, journalStep, runJournal, numbered, afterEdit, afterLoad, afterList as afterList, changed, sheetStep, runSheet}
 use Rattle.journal.specs.Claim.{Claim}

@@ -12,13 +12,17 @@ use Rattle.reading.specs.declared.geometry.Size.{Size}
 use Rattle.fitting.specs.Fit.{hasZeroSide}
 use Rattle.placing.specs.Focus.{focusOf}
 use Rattle.load.specs.Load.{Focus}
-use Rattle.sheet.specs.declared.edit.Edit.the-variants.{Cut}
-use Rattle.sheet.specs.declared.EditAnswer.the-variants.{Accepted, Empty, Full, BadCut, DropsPrimary, NothingStands}
-use Rattle.sheet.specs.declared.list.ListAnswer.the-variants as answers
+use Rattle.edits.specs.declared.Edit.the-variants.{Cut}
+use Rattle.edits.specs.declared.EditAnswer.the-variants.{Accepted, Empty, Full, BadCut, DropsPrimary, NothingStands}
+use Rattle.listing.specs.declared.ListAnswer.the-variants as answers
 use Rattle.sheet.specs.declared.Sheet.{Sheet}
 use Rattle.sheet.specs.declared.Edited.{Edited}
-use Rattle.sheet.specs.Sheet.{editNumber, loadNumber, edited, loadSheet, usable, presentFrame, withEdits, addEdit, ifOpen, turnSheet, mirrorSheet, cutPasses, keepsPrimary, cutSheet, backSheet}
-use Rattle.sheet.specs.Listing.{listNumber, listed as listedOf, isShort, headIn, over, flat, scaledAll, listAnswer, listBuffer, fitAnswer, fitBuffer}
+use Rattle.edits.specs.Answer.{editNumber}
+use Rattle.load.specs.Load.{loadNumber}
+use Rattle.sheet.specs.Sheet.{edited, loadSheet, usable, presentFrame, withEdits, addEdit, ifOpen, turnSheet, mirrorSheet, keepsPrimary, cutSheet, backSheet}
+use Rattle.edits.specs.Place.{cutPasses}
+use Rattle.listing.specs.Listing.{listNumber, over, flat}
+use Rattle.sheet.specs.Listing.{listed as listedOf, isShort, headIn, scaledAll, listAnswer, listBuffer, fitAnswer, fitBuffer}
 use Rattle.journal.specs.Journal.{Change, cut, turn, mirror, Answer}
 use Rattle.journal.specs.Calls.{Call, load, change, back, list, fit, lent, afterEdit, afterLoad, afterList, changed, sheetStep}
 use Rattle.journal.specs.Claim.{RefusedKeeps}

@@ -11,14 +11,15 @@ use native.Mathlib.Omega.{arith}
 use Rattle.reading.specs.declared.geometry.Size.{Size}
 use Rattle.fitting.specs.declared.focus.FocusPoint.{FocusPoint}
 use Rattle.load.specs.Load.{noPoint}
-use Rattle.sheet.specs.declared.edit.Edit.{Edit}
-use Rattle.sheet.specs.declared.edit.Edit.the-variants.{Cut, Turn, Mirror}
-use Rattle.sheet.specs.declared.edit.Placed.{Placed}
+use Rattle.edits.specs.declared.Edit.{Edit}
+use Rattle.edits.specs.declared.Edit.the-variants.{Cut, Turn, Mirror}
+use Rattle.edits.specs.declared.Placed.{Placed}
 use Rattle.sheet.specs.declared.Sheet.{Sheet}
-use Rattle.sheet.specs.Place.{editAt, staysOn, cutPoint, moved, placed}
+use Rattle.edits.specs.Place.{editAt, staysOn, cutPoint, moved, placed}
 use Rattle.sheet.specs.Sheet.{placedAt}
-use Rattle.sheet.specs.Listing.{ifListed as ifPlaced, listing, six, flat}
-use Rattle.sheet.proofs.Words.{stored-kept}
+use Rattle.sheet.specs.Listing.{ifListed as ifPlaced, listing}
+use Rattle.listing.specs.Listing.{six, flat}
+use Rattle.edits.proofs.Words.{stored-kept}
 use Rattle.journal.specs.Journal.{Change, cut, turn, mirror, frameBy, movedBy, frameAfter, carried, ifListed, listed, numbers}
 use Rattle.journal.proofs.Carry.{frame-snoc, carried-snoc, listed-snoc}
 

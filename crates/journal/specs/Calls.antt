@@ -11,10 +11,13 @@ use Rattle.placing.specs.Focus.{focusOf}
 use Rattle.sheet.specs.declared.Sheet.{Sheet}
 use Rattle.sheet.specs.declared.Edited.{Edited}
 use Rattle.sheet.specs.declared.Loaded.{Loaded}
-use Rattle.sheet.specs.declared.list.ListAnswer.{ListAnswer}
-use Rattle.sheet.specs.declared.list.ListAnswer.the-variants.{Empty, ZeroBox, Short, Listed}
-use Rattle.sheet.specs.Sheet.{editNumber, loadNumber, loadSheet, turnSheet, mirrorSheet, backSheet, cutSheet}
-use Rattle.sheet.specs.Listing.{listNumber, headNumbers, listAnswer, listBuffer, fitAnswer, fitBuffer}
+use Rattle.listing.specs.declared.ListAnswer.{ListAnswer}
+use Rattle.listing.specs.declared.ListAnswer.the-variants.{Empty, ZeroBox, Short, Listed}
+use Rattle.edits.specs.Answer.{editNumber}
+use Rattle.load.specs.Load.{loadNumber}
+use Rattle.sheet.specs.Sheet.{loadSheet, turnSheet, mirrorSheet, backSheet, cutSheet}
+use Rattle.listing.specs.Listing.{listNumber, headNumbers}
+use Rattle.sheet.specs.Listing.{listAnswer, listBuffer, fitAnswer, fitBuffer}
 use Rattle.journal.specs.Journal.{Change, cut, turn, mirror, Journal, Answer, journalLoad, journalChange, journalBack, journalList, journalFit}
 
 -- a call with its arguments, except the sheet

@@ -15,6 +15,7 @@ use Rattle.load.specs.declared.focus.FocusOrigin.{FocusOrigin}
 use Rattle.load.specs.declared.focus.FocusOrigin.the-variants.{Recorded, Table}
 use Rattle.load.specs.declared.focus.Refusal.{Refusal}
 use Rattle.load.specs.declared.focus.Refusal.the-variants.{Unreadable, Missing, Manual, Unusable, Unplaced, Unnamed}
+use Rattle.load.specs.declared.focus.FocusAnswer.{FocusAnswer}
 use Rattle.load.specs.declared.focus.FocusAnswer.the-variants.{Placed, Refused}
 use Rattle.load.specs.declared.focus.FocusPoints.{FocusPoints}
 
@@ -34,6 +35,11 @@ refusalNumber Manual = 3
 refusalNumber Unusable = 4
 refusalNumber Unplaced = 5
 refusalNumber Unnamed = 6
+
+-- 01's number for each way in which a load ends, 0 for accepted
+unfoldable pub loadNumber : FocusAnswer → ℕ
+loadNumber Placed = 0
+loadNumber (Refused why) = refusalNumber why
 
 -- the way that has a number
 unfoldable pub refusalOf : ℕ → Refusal

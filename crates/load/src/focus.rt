@@ -6,7 +6,7 @@ use reading::geometry::Point;
 use reading::geometry::Size;
 ghost use mathlib.Core.Path.{_≡_};
 ghost use lib.ListN.{replicate};
-ghost use Rattle.load.specs.Load.{noPoint, originNumber, refusalNumber, refusedBy};
+ghost use Rattle.load.specs.Load.{noPoint, originNumber, refusalNumber, loadNumber, refusedBy};
 
 // Where points come from: the record's own position, or the table of the body's points.
 pub enum FocusOrigin {
@@ -121,5 +121,15 @@ pub fn refusal_number(why: Refusal) -> u32
         Refusal::Unusable => 4,
         Refusal::Unplaced => 5,
         Refusal::Unnamed => 6,
+    }
+}
+
+// 01's number for how a load ends, 0 for accepted.
+pub fn load_number(answer: FocusAnswer) -> u32
+    ensures { λ r. ⌜ r ≡ loadNumber answer ⌝ }
+{
+    match answer {
+        FocusAnswer::Placed => 0,
+        FocusAnswer::Refused(why) => refusal_number(why),
     }
 }

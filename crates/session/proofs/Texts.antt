@@ -29,11 +29,14 @@ use Rattle.calls.specs.Format.{callOf}
 use Rattle.sheet.specs.declared.Sheet.{Sheet}
 use Rattle.sheet.specs.declared.Edited.{Edited}
 use Rattle.sheet.specs.declared.Loaded.{Loaded}
-use Rattle.sheet.specs.declared.list.Listing.{Listing}
-use Rattle.sheet.specs.declared.list.ListAnswer.{ListAnswer}
-use Rattle.sheet.specs.declared.list.ListAnswer.the-variants.{Short, Listed}
-use Rattle.sheet.specs.Sheet.{usable, editNumber, loadNumber, loadSheet, presentFrame}
-use Rattle.sheet.specs.Listing.{listNumber, headNumbers, listed, listCount, listIndex, isShort, headIn, listAnswer, listBuffer, fitAnswer, fitBuffer}
+use Rattle.listing.specs.declared.Listing.{Listing}
+use Rattle.listing.specs.declared.ListAnswer.{ListAnswer}
+use Rattle.listing.specs.declared.ListAnswer.the-variants.{Short, Listed}
+use Rattle.sheet.specs.Sheet.{usable, loadSheet, presentFrame}
+use Rattle.edits.specs.Answer.{editNumber}
+use Rattle.load.specs.Load.{loadNumber}
+use Rattle.listing.specs.Listing.{listNumber, headNumbers}
+use Rattle.sheet.specs.Listing.{listed, listCount, listIndex, isShort, headIn, listAnswer, listBuffer, fitAnswer, fitBuffer}
 use Rattle.sheet.proofs.Listed.{listing-length}
 use Rattle.sheet.proofs.Usable.{usable-told}
 use Rattle.journal.specs.Journal.{Answer}

@@ -15,8 +15,8 @@ use Rattle.calls.specs.declared.Call.{Call as Parsed}
 use Rattle.calls.specs.declared.Call.the-variants.{Malformed, Load, Cut, Turn, Mirror, Back, ListPoints, Fit, Contents}
 use Rattle.calls.specs.Format.{modelPart, blockPart, contentsPart, callOf}
 use Rattle.sheet.specs.declared.Sheet.{Sheet}
-use Rattle.sheet.specs.declared.list.ListAnswer.{ListAnswer}
-use Rattle.sheet.specs.declared.list.ListAnswer.the-variants.{Empty, ZeroBox, Short, Listed}
+use Rattle.listing.specs.declared.ListAnswer.{ListAnswer}
+use Rattle.listing.specs.declared.ListAnswer.the-variants.{Empty, ZeroBox, Short, Listed}
 use Rattle.journal.specs.Journal.{cut, turn, mirror, Answer}
 use Rattle.journal.specs.Calls.{Call, load, change, back, list, fit, sheetStep}
 use Rattle.session.specs.declared.Stepped.{Stepped}

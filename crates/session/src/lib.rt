@@ -1,20 +1,20 @@
 // Answers a line: the call that it spells is made of the sheet, and its answer is put as text into a lent buffer.
 use calls::Call;
 use hex::Decoded;
+use listing::ListAnswer;
+use listing::Listing;
 use reading::geometry::OptionalSize;
 use reading::geometry::Size;
 use reading::nikon::ContentsAnswer;
 use sheet::Edited;
 use sheet::Loaded;
 use sheet::Sheet;
-use sheet::list::ListAnswer;
-use sheet::list::Listing;
 ghost use mathlib.Core.Path.{_≡_};
 ghost use mathlib.Core.List.{[]};
 ghost use Prim.Native.Nat.{_≤_};
 ghost use lib.ListN.{length};
 ghost use Rattle.text.specs.Put.{Put};
-ghost use Rattle.sheet.specs.Listing.{listNumber, headNumbers};
+ghost use Rattle.listing.specs.Listing.{listNumber, headNumbers};
 ghost use Rattle.journal.specs.Calls.{load, list, fit, back, numbered, given, afterEdit};
 ghost use Rattle.journal.specs.Journal.{cut};
 ghost use Rattle.calls.specs.Format.{modelPart, blockPart};
@@ -111,7 +111,7 @@ fn after_edit(edit: Edited, out: &mut [u8], at: usize) -> Stepped
     ensures { λ r. ⌜ (r .sheet ≡ edit .sheet) × Put (now (out .entry)) at (answerText (afterEdit edit .0)) (now (out .exit)) (r .at) × (length (answerText (afterEdit edit .0)) ≤ mostText) ⌝ }
 {
     let answer = edit.answer;
-    let next = put_outcome(out, at, sheet::edit_number(answer));
+    let next = put_outcome(out, at, edits::edit_number(answer));
     let sheet = edit.sheet;
     Stepped { sheet, at: next }
 }
@@ -129,7 +129,7 @@ fn answer_load(
 {
     let done = sheet.load(calls::block_of(b), raw, picture, calls::model_of(b));
     let answer = done.answer;
-    let next = put_outcome(out, at, sheet::load_number(answer));
+    let next = put_outcome(out, at, load::focus::load_number(answer));
     let after = done.sheet;
     Stepped {
         sheet: after,

@@ -1,6 +1,3 @@
 pub mod Usable
-pub mod Words
-pub mod Places
 pub mod Listed
-pub mod Buffer
 pub mod Present

@@ -8,12 +8,12 @@ use native.Mathlib.Omega.{arith}
 use native.Mathlib.Numerals.{add-one}
 use Rattle.fitting.specs.declared.focus.FocusPoint.{FocusPoint}
 use Rattle.load.specs.Load.{places}
-use Rattle.sheet.specs.declared.edit.Placed.{Placed}
+use Rattle.edits.specs.declared.Placed.{Placed}
 use Rattle.sheet.specs.declared.Sheet.{Sheet}
 use Rattle.sheet.specs.declared.list.Row.{Row}
 use Rattle.sheet.specs.Sheet.{placedAt}
 use Rattle.sheet.specs.Listing.{ifListed, listing, rowOf}
-use Rattle.sheet.proofs.Places.{set-places}
+use Rattle.load.proofs.Places.{set-places}
 
 one-at-most : (q : Placed) → length (ifListed q) ≤ 1
 one-at-most q = by (q .listed)

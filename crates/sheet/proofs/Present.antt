@@ -8,12 +8,12 @@ use native.Mathlib.Omega.{arith}
 use borrow.Author.Tests.{lt-ltb, le-ltb}
 use Rattle.reading.specs.declared.geometry.Size.{Size}
 use Rattle.sheet.specs.declared.Sheet.{Sheet}
-use Rattle.sheet.specs.declared.list.Listing.{Listing}
+use Rattle.listing.specs.declared.Listing.{Listing}
 use Rattle.sheet.specs.declared.list.Present.{Present}
 use Rattle.sheet.specs.Sheet.{presentFrame}
 use Rattle.sheet.specs.Listing.{listed, listCount, listIndex, presentOf, isShort, headIn}
 use Rattle.sheet.proofs.Usable.{Counts}
-use Rattle.sheet.proofs.Places.{take-places}
+use Rattle.load.proofs.Places.{take-places}
 use Rattle.sheet.proofs.Listed.{listing-length}
 
 module _ (s : Sheet) (v : Present) (e : v ≡ presentOf s) where

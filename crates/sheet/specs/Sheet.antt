@@ -1,6 +1,6 @@
 -- 01, "Sheet": what load, cut, turn, mirror and back answer and leave, for every sheet.
 use Prim.Native.Nat.{ℕ, _+_, _-_, _*_}
-use mathlib.Core.Bool.{Bool, true, false, _&&_, not, cond}
+use mathlib.Core.Bool.{Bool, true, false, _&&_, cond}
 use mathlib.Core.List.{List}
 use lib.Dec.{leb, ltb, eqb}
 use lib.ListN.{getD, length, replicate}
@@ -11,31 +11,17 @@ use Rattle.reading.specs.declared.focus.FocusAreaMode.the-variants.{Unnamed}
 use Rattle.load.specs.declared.focus.FocusOrigin.the-variants.{Recorded}
 use Rattle.load.specs.declared.focus.FocusAnswer.{FocusAnswer}
 use Rattle.load.specs.declared.focus.FocusAnswer.the-variants as load
-use Rattle.load.specs.Load.{Focus, noPoint, places, refusalOf, refusalNumber}
-use Rattle.sheet.specs.declared.edit.Edit.{Edit}
-use Rattle.sheet.specs.declared.edit.Edit.the-variants.{Turn, Mirror, Cut}
-use Rattle.sheet.specs.declared.edit.Placed.{Placed}
+use Rattle.load.specs.Load.{Focus, noPoint, places, refusalOf}
+use Rattle.edits.specs.declared.Edit.{Edit}
+use Rattle.edits.specs.declared.Edit.the-variants.{Turn, Mirror, Cut}
+use Rattle.edits.specs.declared.Placed.{Placed}
 use Rattle.sheet.specs.declared.Sheet.{Sheet}
-use Rattle.sheet.specs.declared.EditAnswer.{EditAnswer}
-use Rattle.sheet.specs.declared.EditAnswer.the-variants.{Accepted, Empty, Full, BadCut, DropsPrimary, NothingStands}
+use Rattle.edits.specs.declared.EditAnswer.{EditAnswer}
+use Rattle.edits.specs.declared.EditAnswer.the-variants.{Accepted, Empty, Full, BadCut, DropsPrimary, NothingStands}
 use Rattle.sheet.specs.declared.Edited.{Edited}
 use Rattle.sheet.specs.declared.Loaded.{Loaded}
 use Rattle.fitting.specs.Fit.{by}
-use Rattle.sheet.specs.Place.{wordsOf, moved, placed}
-
--- 01's number for each way in which an edit or back ends, 0 for accepted
-unfoldable pub editNumber : EditAnswer → ℕ
-editNumber Accepted = 0
-editNumber Empty = 7
-editNumber Full = 8
-editNumber BadCut = 9
-editNumber DropsPrimary = 10
-editNumber NothingStands = 11
-
--- 01's number for each way in which a load ends, 0 for accepted
-unfoldable pub loadNumber : FocusAnswer → ℕ
-loadNumber load.Placed = 0
-loadNumber (load.Refused why) = refusalNumber why
+use Rattle.edits.specs.Place.{wordsOf, moved, placed, cutPasses}
 
 abbrev pub edited : EditAnswer → Sheet → Edited
 edited a s = record { answer = a; sheet = s }
@@ -120,11 +106,6 @@ turnSheet s = ifOpen s (edited Accepted (addEdit s Turn))
 
 unfoldable pub mirrorSheet : Sheet → Edited
 mirrorSheet s = ifOpen s (edited Accepted (addEdit s Mirror))
-
--- a cut that does not have "a zero side" nor "passes the present frame": the sums are exact
-unfoldable pub cutPasses : ℕ → ℕ → ℕ → ℕ → Size → Bool
-cutPasses l t w h f =
-    not (eqb w 0) && (not (eqb h 0) && (leb (l + w) (f .width) && leb (t + h) (f .height)))
 
 -- 10, "cut would drop the primary": whether the primary is listed after one more edit
 unfoldable pub keepsPrimary : Sheet → Edit → Bool

@@ -1,7 +1,8 @@
 // The sheet: the points of one load, under edits that stand until they are taken back. Every method takes the sheet by value
 // and gives back what it leaves; it asks nothing of its caller, and a refused call changes nothing.
-use edit::Edit;
-use edit::Placed;
+use edits::Edit;
+use edits::EditAnswer;
+use edits::Placed;
 use fitting::focus::FocusPoint;
 use load::focus::FocusAnswer;
 use load::focus::FocusOrigin;
@@ -11,9 +12,8 @@ use reading::geometry::Size;
 ghost use mathlib.Core.Path.{_≡_};
 ghost use Prim.Native.Nat.{_<_, _≤_};
 ghost use Rattle.placing.specs.Focus.{focusOf};
-ghost use Rattle.sheet.specs.Sheet.{editNumber, loadNumber, edited, freshSheet, loadSheet, usable, placedAt, addEdit, ifOpen, turnSheet, mirrorSheet, cutSheet, backSheet};
+ghost use Rattle.sheet.specs.Sheet.{edited, freshSheet, loadSheet, usable, placedAt, addEdit, ifOpen, turnSheet, mirrorSheet, cutSheet, backSheet};
 
-pub mod edit; // an edit, and one point under edits
 pub mod list; // the listing of the points where they are now, and in another frame
 
 // How many edits may stand.
@@ -33,16 +33,6 @@ pub struct Sheet {
     pub standing: usize,
 }
 
-// How cut, turn, mirror and back end: 01's numbers 0 and 7 to 11, in this order.
-pub enum EditAnswer {
-    Accepted,
-    Empty,
-    Full,
-    BadCut,
-    DropsPrimary,
-    NothingStands,
-}
-
 // A sheet after cut, turn, mirror or back.
 pub struct Edited {
     pub answer: EditAnswer,
@@ -53,30 +43,6 @@ pub struct Edited {
 pub struct Loaded {
     pub answer: FocusAnswer,
     pub sheet: Sheet,
-}
-
-// 01's number for how cut, turn, mirror and back end, 0 for accepted.
-pub fn edit_number(answer: EditAnswer) -> u32
-    ensures { λ r. ⌜ r ≡ editNumber answer ⌝ }
-{
-    match answer {
-        EditAnswer::Accepted => 0,
-        EditAnswer::Empty => 7,
-        EditAnswer::Full => 8,
-        EditAnswer::BadCut => 9,
-        EditAnswer::DropsPrimary => 10,
-        EditAnswer::NothingStands => 11,
-    }
-}
-
-// 01's number for how a load ends, 0 for accepted.
-pub fn load_number(answer: FocusAnswer) -> u32
-    ensures { λ r. ⌜ r ≡ loadNumber answer ⌝ }
-{
-    match answer {
-        FocusAnswer::Placed => 0,
-        FocusAnswer::Refused(why) => load::focus::refusal_number(why),
-    }
 }
 
 impl Sheet {
@@ -169,7 +135,7 @@ impl Sheet {
         let point = self.points[i];
         let words = self.edits;
         let n = self.standing;
-        edit::place(frame, point, &words, n)
+        edits::place_after(frame, point, &words, n)
     }
 
     // The sheet with one more edit.
@@ -177,7 +143,7 @@ impl Sheet {
         requires { ⌜ self .standing < 64 ⌝ }
         ensures { λ r. ⌜ r ≡ addEdit self edit ⌝ }
     {
-        let words = edit::words_of(edit);
+        let words = edits::words_of(edit);
         let n = self.standing;
         let at = n * 5;
         let mut next = self;
@@ -241,7 +207,7 @@ impl Sheet {
         let primary = self.primary;
         let place = self.place_at(primary);
         let frame = place.frame;
-        if !edit::cut_passes(left, top, width, height, frame) {
+        if !edits::cut_passes(left, top, width, height, frame) {
             return self.ends(EditAnswer::BadCut);
         }
         let edit = Edit::Cut {
@@ -250,7 +216,7 @@ impl Sheet {
             width,
             height,
         };
-        let after = edit::move_by(edit, place);
+        let after = edits::move_by(edit, place);
         if !after.listed {
             return self.ends(EditAnswer::DropsPrimary);
         }

@@ -5,13 +5,13 @@
 // big-endian. Place i of a buffer holds i + 1 before a call. No contract can say what is printed: that is held to `stdout`.
 use libc::STDIN_FILENO;
 use libc::STDOUT_FILENO;
+use listing::ListAnswer;
+use listing::Listing;
 use reading::geometry::OptionalSize;
 use reading::geometry::Size;
 use sheet::Edited;
 use sheet::Loaded;
 use sheet::Sheet;
-use sheet::list::ListAnswer;
-use sheet::list::Listing;
 use tiff::io::ByteOrder;
 ghost use mathlib.Core.Path.{_≡_};
 ghost use lib.ListN.{length};
@@ -38,14 +38,14 @@ fn print_number(n: u32) {
 
 fn after_edit(r: Edited) -> Sheet {
     let answer = r.answer;
-    print_number(sheet::edit_number(answer));
+    print_number(edits::edit_number(answer));
     let s = r.sheet;
     s
 }
 
 fn after_load(r: Loaded) -> Sheet {
     let answer = r.answer;
-    print_number(sheet::load_number(answer));
+    print_number(load::focus::load_number(answer));
     let s = r.sheet;
     s
 }

@@ -2,8 +2,8 @@
 use mathlib.Core.Path.{_≡_, refl, sym, ap, _∙_}
 use native.Mathlib.Omega.{arith}
 use Rattle.session.proofs.Texts as texts
-use Rattle.sheet.specs.Listing.{listNumber}
-use Rattle.sheet.specs.declared.list.ListAnswer.the-variants.{Empty, ZeroBox, Short}
+use Rattle.listing.specs.Listing.{listNumber}
+use Rattle.listing.specs.declared.ListAnswer.the-variants.{Empty, ZeroBox, Short}
 use borrow.Author.Needs.{needs}
 use Rattle.session.proofs.put_list.Statement.{statement}
 use Rattle.session.proofs.put_list.Tie as tie

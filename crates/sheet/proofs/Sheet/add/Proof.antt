@@ -1,9 +1,8 @@
 -- `Sheet::add`: the shared refusals, then the sheet that `with_edit` ensures. Assumes nothing.
 use mathlib.Core.Path.{ap, _∙_}
-use Rattle.sheet.specs.declared.EditAnswer.the-variants.{Accepted}
+use Rattle.edits.specs.declared.EditAnswer.the-variants.{Accepted}
 use Rattle.sheet.specs.Sheet.{edited}
 use Rattle.sheet.proofs.Usable.{when-empty, when-full, when-open}
-use borrow.Author.Needs.{needs}
 use borrow.Author.Needs.{needs}
 use Rattle.sheet.proofs.Sheet.add.Statement.{statement}
 use Rattle.sheet.proofs.Sheet.add.Tie as tie

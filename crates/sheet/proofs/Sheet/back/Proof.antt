@@ -3,10 +3,9 @@ use mathlib.Core.Path.{_≡_, _∙_}
 use mathlib.Core.Bool.{Bool, true, false, not}
 use Prim.Native.Nat.{_-_}
 use borrow.Author.Tests.{eq-eqb, ne-eqb, not-true, not-false}
-use Rattle.sheet.specs.declared.EditAnswer.the-variants.{Accepted, Empty, NothingStands}
+use Rattle.edits.specs.declared.EditAnswer.the-variants.{Accepted, Empty, NothingStands}
 use Rattle.sheet.specs.declared.Sheet.{Sheet}
 use Rattle.sheet.specs.Sheet.{edited, withEdits, usable, backSheet}
-use borrow.Author.Needs.{needs}
 use borrow.Author.Needs.{needs}
 use Rattle.sheet.proofs.Sheet.back.Statement.{statement}
 use Rattle.sheet.proofs.Sheet.back.Tie as tie

@@ -5,15 +5,14 @@ use Prim.Native.Nat.{ℕ, _<_}
 use native.Mathlib.Omega.{arith}
 use borrow.Author.Tests.{not-true, not-false}
 use Rattle.reading.specs.declared.geometry.Size.{Size}
-use Rattle.sheet.specs.declared.edit.Edit.{Edit}
-use Rattle.sheet.specs.declared.edit.Edit.the-variants.{Cut}
-use Rattle.sheet.specs.declared.edit.Placed.{Placed}
-use Rattle.sheet.specs.declared.EditAnswer.the-variants.{Accepted, BadCut, DropsPrimary}
+use Rattle.edits.specs.declared.Edit.{Edit}
+use Rattle.edits.specs.declared.Edit.the-variants.{Cut}
+use Rattle.edits.specs.declared.Placed.{Placed}
+use Rattle.edits.specs.declared.EditAnswer.the-variants.{Accepted, BadCut, DropsPrimary}
 use Rattle.sheet.specs.declared.Sheet.{Sheet}
-use Rattle.sheet.specs.Place.{moved}
-use Rattle.sheet.specs.Sheet.{edited, usable, placedAt, presentFrame, addEdit, cutPasses, keepsPrimary, cutSheet}
+use Rattle.edits.specs.Place.{moved, cutPasses}
+use Rattle.sheet.specs.Sheet.{edited, usable, placedAt, presentFrame, addEdit, keepsPrimary, cutSheet}
 use Rattle.sheet.proofs.Usable.{counts, when-empty, when-full, when-open}
-use borrow.Author.Needs.{needs}
 use borrow.Author.Needs.{needs}
 use Rattle.sheet.proofs.Sheet.cut.Statement.{statement}
 use Rattle.sheet.proofs.Sheet.cut.Tie as tie

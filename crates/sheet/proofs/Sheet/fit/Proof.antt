@@ -10,14 +10,14 @@ use Rattle.reading.specs.declared.geometry.Size.{Size}
 use Rattle.fitting.specs.declared.focus.FocusPoint.{FocusPoint}
 use Rattle.fitting.specs.Fit.{hasZeroSide}
 use Rattle.sheet.specs.declared.Sheet.{Sheet}
-use Rattle.sheet.specs.declared.list.ListAnswer.the-variants.{Empty, ZeroBox, Short, Listed}
+use Rattle.listing.specs.declared.ListAnswer.the-variants.{Empty, ZeroBox, Short, Listed}
 use Rattle.sheet.specs.declared.list.Present.{Present}
 use Rattle.sheet.specs.Sheet.{usable, presentFrame}
-use Rattle.sheet.specs.Listing.{flat, over, hasRoom, withPoints, listed, listCount, presentOf, scaledAll, fitAnswer, fitBuffer}
+use Rattle.listing.specs.Listing.{flat, over, hasRoom, withPoints}
+use Rattle.sheet.specs.Listing.{listed, listCount, presentOf, scaledAll, fitAnswer, fitBuffer}
 use Rattle.sheet.proofs.Usable.{counts}
 use Rattle.sheet.proofs.Present.{count-of, count-room, frame-of, points-of, short, long, head-of}
-use Rattle.sheet.proofs.Buffer.{no-room, has-room}
-use borrow.Author.Needs.{needs}
+use Rattle.listing.proofs.Buffer.{no-room, has-room}
 use borrow.Author.Needs.{needs}
 use Rattle.sheet.proofs.Sheet.fit.Statement.{statement}
 use Rattle.sheet.proofs.Sheet.fit.Tie as tie

@@ -7,14 +7,14 @@ use lib.ListN.{length}
 use borrow.Author.Tests.{not-true, not-false}
 use Rattle.fitting.specs.declared.focus.FocusPoint.{FocusPoint}
 use Rattle.sheet.specs.declared.Sheet.{Sheet}
-use Rattle.sheet.specs.declared.list.ListAnswer.the-variants.{Empty, Short, Listed}
+use Rattle.listing.specs.declared.ListAnswer.the-variants.{Empty, Short, Listed}
 use Rattle.sheet.specs.declared.list.Present.{Present}
 use Rattle.sheet.specs.Sheet.{usable}
-use Rattle.sheet.specs.Listing.{flat, over, hasRoom, withPoints, presentOf, headIn, listAnswer, listBuffer}
+use Rattle.listing.specs.Listing.{flat, over, hasRoom, withPoints}
+use Rattle.sheet.specs.Listing.{presentOf, headIn, listAnswer, listBuffer}
 use Rattle.sheet.proofs.Usable.{counts}
 use Rattle.sheet.proofs.Present.{count-room, frame-of, points-of, short, long, head-of}
-use Rattle.sheet.proofs.Buffer.{no-room, has-room}
-use borrow.Author.Needs.{needs}
+use Rattle.listing.proofs.Buffer.{no-room, has-room}
 use borrow.Author.Needs.{needs}
 use Rattle.sheet.proofs.Sheet.list.Statement.{statement}
 use Rattle.sheet.proofs.Sheet.list.Tie as tie

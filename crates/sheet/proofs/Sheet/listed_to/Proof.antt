@@ -5,6 +5,7 @@ use Prim.Native.Nat.{_-_, _≤_}
 use native.Mathlib.Omega.{arith}
 use lib.ListN.{length}
 use Rattle.load.specs.Load.{places}
+use Rattle.edits.proofs.Most.{all-held}
 use Rattle.sheet.specs.declared.list.Row.{Row}
 use Rattle.sheet.specs.Sheet.{placedAt}
 use Rattle.sheet.specs.Listing.{listing}
@@ -31,8 +32,8 @@ mul-p c = omega (arith, c .before .before .before .before .before .pre)
 element-copy-out-p : tie.Need-element-copy-out-p Inv-loop μ-loop
 element-copy-out-p c = omega (arith, c .before .before .before .before .before .pre)
 
-place-requires : tie.Need-place-requires Inv-loop μ-loop
-place-requires c κs = omega (arith, c .before .before .before .before .before .before .before .pre)
+place-after-requires : tie.Need-place-after-requires Inv-loop μ-loop
+place-after-requires c κs = omega (arith, c .before .before .before .before .before .before .before .pre)
 
 mul-points : tie.Need-mul-points Inv-loop μ-loop
 mul-points c =
@@ -68,10 +69,10 @@ loop-again : tie.Need-loop-again Inv-loop μ-loop
 unfolding placedAt
 loop-again c = ⊎-elim
     (λ w.
-    let z = one-in _ _ _ _ (omega (arith, c .before .before .before .before .before .before .before .before .before .pre)) (c .before .before .before .before .before .loop .inv .1) (c .before .before .before .before .before .loop .inv .2) _ (c .before .place .ensures) (w .0 .taken) in
+    let z = one-in _ _ _ _ (omega (arith, c .before .before .before .before .before .before .before .before .before .pre)) (c .before .before .before .before .before .loop .inv .1) (c .before .before .before .before .before .loop .inv .2) _ (c .before .place-after .ensures ∙ all-held _ _ _ _ (c .before .before .before .before .before .before .before .before .before .pre .2)) (w .0 .taken) in
     (omega arith, w .3 ∙ z .0, w .2 ∙ z .1))
     (λ w.
-    let z = none-in _ _ _ _ (omega (arith, c .before .before .before .before .before .before .before .before .before .pre)) (c .before .before .before .before .before .loop .inv .1) (c .before .before .before .before .before .loop .inv .2) _ (c .before .place .ensures) (w .0 .left) in
+    let z = none-in _ _ _ _ (omega (arith, c .before .before .before .before .before .before .before .before .before .pre)) (c .before .before .before .before .before .loop .inv .1) (c .before .before .before .before .before .loop .inv .2) _ (c .before .place-after .ensures ∙ all-held _ _ _ _ (c .before .before .before .before .before .before .before .before .before .pre .2)) (w .0 .left) in
     (omega arith, w .2 ∙ z .0, w .1 ∙ z .1))
     (c .if1 .came)
 
@@ -89,7 +90,7 @@ listed-to-spec =
     loop-holds
     mul-p
     element-copy-out-p
-    place-requires
+    place-after-requires
     mul-points
     array-set-from-points
     add-count

@@ -1,7 +1,7 @@
 -- `Sheet::present`: two rows of listed points and the primary's place, by what the callees ensure. Assumes nothing.
 use mathlib.Core.Path.{_≡_}
 use native.Mathlib.Omega.{arith}
-use Rattle.sheet.specs.declared.edit.Placed.{Placed}
+use Rattle.edits.specs.declared.Placed.{Placed}
 use Rattle.sheet.specs.declared.Sheet.{Sheet}
 use Rattle.sheet.specs.declared.list.Row.{Row}
 use Rattle.sheet.specs.declared.list.Present.{Present}

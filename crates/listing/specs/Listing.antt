@@ -1,0 +1,48 @@
+-- 01, "After the sheet": six numbers a point in a lent buffer, and what is said beside them.
+use Prim.Native.Nat.{ℕ, _*_}
+use mathlib.Core.Bool.{Bool, cond, _&&_}
+use mathlib.Core.List.{List, [], _∷_, _++_}
+use lib.Dec.{leb}
+use lib.ListN.{length, take, drop}
+use Rattle.reading.specs.Focus.{inFocusNumber, modeNumber}
+use Rattle.fitting.specs.declared.focus.FocusPoint.{FocusPoint}
+use Rattle.load.specs.Load.{originNumber}
+use Rattle.listing.specs.declared.Listing.{Listing}
+use Rattle.listing.specs.declared.ListAnswer.{ListAnswer}
+use Rattle.listing.specs.declared.ListAnswer.the-variants.{Empty, ZeroBox, Short, Listed}
+
+-- 01's number for each way in which list and fit end, 0 for listed
+unfoldable pub listNumber : ListAnswer → ℕ
+listNumber Empty = 7
+listNumber ZeroBox = 12
+listNumber Short = 13
+listNumber (Listed l) = 0
+
+-- "The answer holds frame, count, primary's index from 0, mode .., origin", in 01's numbers
+unfoldable pub headNumbers : Listing → List ℕ
+headNumbers l =
+    l .frame .width ∷
+    l .frame .height ∷ l .count ∷ l .index ∷ modeNumber (l .mode) ∷ originNumber (l .origin) ∷ []
+
+-- "six 32-bit numbers a point: number (0 if recorded), x, y, width, height (both 0 without area), in-focus"
+unfoldable pub six : FocusPoint → List ℕ
+six p =
+    p .number ∷
+    p .center .x ∷
+    p .center .y ∷ p .size .width ∷ p .size .height ∷ inFocusNumber (p .«in_focus») ∷ []
+
+unfoldable pub flat : List FocusPoint → List ℕ
+flat [] = []
+flat (p ∷ ps) = six p ++ flat ps
+
+-- some numbers written at a buffer's front: "the rest of the buffer is kept"
+abbrev pub over : List ℕ → List ℕ → List ℕ
+over vs b = vs ++ drop (length vs) b
+
+-- whether the first n of 39 points have room in a buffer of m places
+unfoldable pub hasRoom : ℕ → ℕ → Bool
+hasRoom n m = leb n 39 && leb (6 * n) m
+
+-- the first n points, written at a buffer's front where they have room
+unfoldable pub withPoints : List FocusPoint → ℕ → List ℕ → List ℕ
+withPoints ps n b = cond (hasRoom n (length b)) (over (flat (take n ps)) b) b
