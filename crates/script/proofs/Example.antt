@@ -14,7 +14,7 @@ use Rattle.load.specs.Load.{originNumber}
 use Rattle.journal.specs.Journal.{frameAfter, carried, listed, isBadCut, journalLoad, changeRefusal, journalChange, numbers, written, journalList}
 use Rattle.journal.specs.Calls.{journalStep}
 use Rattle.text.specs.Number.{digitsIn, digitsOf}
-use Rattle.text.specs.Answers.{headText, pointText, pointsText}
+use Rattle.answers.specs.Answers.{headText, pointText, pointsText}
 use Rattle.hex.specs.Hex.{digitOf, allDigits, wellFormed, halfOf, bytesOf, sum}
 use Rattle.calls.specs.Format.{sizeAt as sizeIn, modelPart, blockPart, sidesAgree, optional, isLoad, loadOf, cutOf, byCode, callOf}
 use Rattle.session.specs.Lines.{spelledIn, spelled, givenText}

@@ -8,7 +8,7 @@ use lib.ListN.{length}
 use native.Mathlib.Nat.{min-eq-left}
 use native.Mathlib.Omega.{arith}
 use borrow.Author.Tests.{eq-eqb, ne-eqb}
-use Rattle.text.specs.Answers.{okText, noText, tagsText, headText, pointsText}
+use Rattle.answers.specs.Answers.{okText, noText, tagsText, headText, pointsText}
 use Rattle.text.specs.Put.{Put}
 use Rattle.text.proofs.Laws.{Puts, _▹_, at-most}
 use Rattle.text.proofs.Lists.{by-cond}
@@ -22,7 +22,7 @@ use Rattle.reading.specs.declared.geometry.OptionalSize.{OptionalSize}
 use Rattle.reading.specs.declared.nikon.TagList.{TagList}
 use Rattle.reading.specs.declared.nikon.ContentsAnswer.the-variants as contents-answers
 use Rattle.fitting.specs.Fit.{hasZeroSide}
-use Rattle.load.specs.Load.{originNumber}
+use Rattle.load.specs.Load.{originNumber, loadNumber}
 use Rattle.placing.specs.Focus.{focusOf}
 use Rattle.calls.specs.declared.Call.{Call as Parsed}
 use Rattle.calls.specs.Format.{callOf}
@@ -34,7 +34,6 @@ use Rattle.listing.specs.declared.ListAnswer.{ListAnswer}
 use Rattle.listing.specs.declared.ListAnswer.the-variants.{Short, Listed}
 use Rattle.sheet.specs.Sheet.{usable, loadSheet, presentFrame}
 use Rattle.edits.specs.Answer.{editNumber}
-use Rattle.load.specs.Load.{loadNumber}
 use Rattle.listing.specs.Listing.{listNumber, headNumbers}
 use Rattle.sheet.specs.Listing.{listed, listCount, listIndex, isShort, headIn, listAnswer, listBuffer, fitAnswer, fitBuffer}
 use Rattle.sheet.proofs.Listed.{listing-length}

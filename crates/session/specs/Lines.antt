@@ -5,7 +5,7 @@ use mathlib.Core.List.{List, [], _∷_, _++_}
 use mathlib.Core.Path.{_≡_}
 use lib.Dec.{eqb}
 use lib.ListN.{getD, length, replicate}
-use Rattle.text.specs.Answers.{okText, noText, tagsText, headText, pointsText}
+use Rattle.answers.specs.Answers.{okText, noText, tagsText, headText, pointsText}
 use Rattle.text.specs.Put.{Put}
 use Rattle.tiff.specs.Outcome.{Outcome, refused, accepted}
 use Rattle.reading.specs.Contents.{contentsNumber, contentsOf}

@@ -31,9 +31,9 @@ fn put_outcome(out: &mut [u8], at: usize, n: u32) -> usize
     ensures { λ r. ⌜ (Put (now (out .entry)) at (outcomeText (numbered n []) []) (now (out .exit)) r) × (length (outcomeText (numbered n []) []) ≤ 14) ⌝ }
 {
     if n == 0 {
-        return text::put_ok(out, at);
+        return answers::put_ok(out, at);
     }
-    text::put_no(out, at, n)
+    answers::put_no(out, at, n)
 }
 
 // The numbers of a listing's head line.
@@ -60,8 +60,8 @@ fn put_listing(out: &mut [u8], at: usize, l: Listing, words: &[u32]) -> usize
     ensures { λ r. ⌜ (Put (now (out .entry)) at (givenText (headNumbers l) (now (words .entry))) (now (out .exit)) r) × (length (givenText (headNumbers l) (now (words .entry))) ≤ mostText) ⌝ }
 {
     let head = head_numbers(l);
-    let next = text::put_head(out, at, &head);
-    text::put_points(out, next, words, l.count)
+    let next = answers::put_head(out, at, &head);
+    answers::put_points(out, next, words, l.count)
 }
 
 // The lines of what list or fit answers.
@@ -70,9 +70,9 @@ fn put_list(out: &mut [u8], at: usize, answer: ListAnswer, words: &[u32]) -> usi
     ensures { λ r. ⌜ (Put (now (out .entry)) at (outcomeText (numbered (listNumber answer) (given answer)) (now (words .entry))) (now (out .exit)) r) × (length (outcomeText (numbered (listNumber answer) (given answer)) (now (words .entry))) ≤ mostText) ⌝ }
 {
     match answer {
-        ListAnswer::Empty => text::put_no(out, at, 7),
-        ListAnswer::ZeroBox => text::put_no(out, at, 12),
-        ListAnswer::Short => text::put_no(out, at, 13),
+        ListAnswer::Empty => answers::put_no(out, at, 7),
+        ListAnswer::ZeroBox => answers::put_no(out, at, 12),
+        ListAnswer::Short => answers::put_no(out, at, 13),
         ListAnswer::Listed(l) => put_listing(out, at, l, words),
     }
 }
@@ -147,11 +147,11 @@ fn answer_contents(sheet: Sheet, block: &[u8], out: &mut [u8], at: usize) -> Ste
     match answer {
         ContentsAnswer::Unreadable => Stepped {
             sheet,
-            at: text::put_no(out, at, 1),
+            at: answers::put_no(out, at, 1),
         },
         ContentsAnswer::Listed => Stepped {
             sheet,
-            at: text::put_tags(out, at, &tags, list.count),
+            at: answers::put_tags(out, at, &tags, list.count),
         },
     }
 }
@@ -160,7 +160,7 @@ fn answer_contents(sheet: Sheet, block: &[u8], out: &mut [u8], at: usize) -> Ste
 fn answer_malformed(sheet: Sheet, out: &mut [u8], at: usize) -> Stepped
     ensures { λ r. ⌜ Answers sheet malformed (now (out .entry)) at (now (out .exit)) r ⌝ }
 {
-    let next = text::put_no(out, at, 14);
+    let next = answers::put_no(out, at, 14);
     Stepped { sheet, at: next }
 }
 

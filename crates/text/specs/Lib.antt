@@ -1,4 +1,3 @@
 pub mod Number
 pub mod Put
-pub mod Answers
 pub mod Laws

@@ -17,6 +17,10 @@ digitsIn (suc k) n = cond (ltb n 10) (lastDigit n ∷ []) (digitsIn k (n / 10) +
 unfoldable pub digitsOf : ℕ → List ℕ
 digitsOf n = digitsIn n n
 
+-- a word and a number
+abbrev pub pair : List ℕ → ℕ → List ℕ
+pair word n = word ++ digitsOf n
+
 -- what digits say, after a number that others before them said
 unfoldable pub readFrom : ℕ → List ℕ → ℕ
 readFrom a [] = a

@@ -1,12 +1,11 @@
-// Answers as text in a lent buffer. A function puts its text at a place and gives the next place; what would lie past the buffer's
+// Text in a lent buffer: bytes, and numbers in decimal. A function puts its text at a place and gives the next place; what would lie past the buffer's
 // end is not put, but counted.
 ghost use mathlib.Core.Path.{_≡_};
 ghost use mathlib.Core.List.{[], _∷_};
 ghost use Prim.Native.Nat.{_<_, _≤_, min};
-ghost use lib.ListN.{length, getD};
-ghost use Rattle.text.specs.Number.{digitsOf, lastDigit};
+ghost use lib.ListN.{length};
+ghost use Rattle.text.specs.Number.{digitsOf, lastDigit, pair};
 ghost use Rattle.text.specs.Put.{Put};
-ghost use Rattle.text.specs.Answers.{pair, okText, noText, nextAll, tagsText, headText, pointText, pointsText};
 
 // One byte.
 pub fn put_byte(out: &mut [u8], at: usize, b: u8) -> usize
@@ -61,104 +60,9 @@ pub fn put_pair(out: &mut [u8], at: usize, word: &[u8], n: u32) -> usize
     put_number(out, next, n)
 }
 
-// The line of a call that was accepted.
-pub fn put_ok(out: &mut [u8], at: usize) -> usize
-    ensures { λ r. ⌜ Put (now (out .entry)) at okText (now (out .exit)) r ⌝ }
-{
-    put_bytes(out, at, b"ok\n")
-}
-
-// The line of a call that was refused with a number.
-pub fn put_no(out: &mut [u8], at: usize, n: u32) -> usize
-    ensures { λ r. ⌜ (Put (now (out .entry)) at (noText n) (now (out .exit)) r) × (length (noText n) ≤ 14) ⌝ }
-{
-    let next = put_pair(out, at, b"no ", n);
-    put_byte(out, next, 10)
-}
-
-// The number at an index, and 0 past the end.
-fn word_at(words: &[u32], i: usize) -> u32
-    ensures { λ r. ⌜ r ≡ getD (now (words .entry)) i 0 ⌝ }
-{
-    if i < words.len() { words[i] } else { 0 }
-}
-
-// The head line of a listing: width, height, points, primary, mode and origin, in this order.
-pub fn put_head(out: &mut [u8], at: usize, given: &[u32]) -> usize
-    ensures { λ r. ⌜ (Put (now (out .entry)) at (headText (now (given .entry))) (now (out .exit)) r) × (length (headText (now (given .entry))) ≤ 99) ⌝ }
-{
-    let a = put_pair(out, at, b"frame ", word_at(given, 0));
-    let b = put_pair(out, a, b" ", word_at(given, 1));
-    let c = put_pair(out, b, b" points ", word_at(given, 2));
-    let d = put_pair(out, c, b" primary ", word_at(given, 3));
-    let e = put_pair(out, d, b" mode ", word_at(given, 4));
-    let end = put_pair(out, e, b" origin ", word_at(given, 5));
-    put_byte(out, end, 10)
-}
-
-// The line of point i: its six numbers.
-fn put_point(out: &mut [u8], at: usize, words: &[u32], i: usize) -> usize
-    requires { ⌜ i < 39 ⌝ }
-    ensures { λ r. ⌜ (Put (now (out .entry)) at (pointText (now (words .entry)) i) (now (out .exit)) r) × (length (pointText (now (words .entry)) i) ≤ 66) ⌝ }
-{
-    let w = i * 6;
-    let a = put_number(out, at, word_at(words, w));
-    let b = put_pair(out, a, b" ", word_at(words, w + 1));
-    let c = put_pair(out, b, b" ", word_at(words, w + 2));
-    let d = put_pair(out, c, b" ", word_at(words, w + 3));
-    let e = put_pair(out, d, b" ", word_at(words, w + 4));
-    let f = put_pair(out, e, b" ", word_at(words, w + 5));
-    put_byte(out, f, 10)
-}
-
 // The smaller of two counts.
 pub fn smaller(a: usize, b: usize) -> usize
     ensures { λ r. ⌜ r ≡ min a b ⌝ }
 {
     if a < b { a } else { b }
-}
-
-// The lines of the first points, 39 at the most.
-pub fn put_points(out: &mut [u8], at: usize, words: &[u32], count: usize) -> usize
-    ensures { λ r. ⌜ (Put (now (out .entry)) at (pointsText (now (words .entry)) (min count 39)) (now (out .exit)) r) × (length (pointsText (now (words .entry)) (min count 39)) ≤ 2574) ⌝ }
-{
-    let n = smaller(count, 39);
-    let mut next = at;
-    let mut i: usize = 0;
-    while i < n {
-        next = put_point(out, next, words, i);
-        i += 1;
-    }
-    next
-}
-
-// The tag at an index, and 0 past the end.
-fn tag_at(tags: &[u16], i: usize) -> u16
-    ensures { λ r. ⌜ r ≡ getD (now (tags .entry)) i 0 ⌝ }
-{
-    if i < tags.len() { tags[i] } else { 0 }
-}
-
-// The first tags, each after a space.
-fn put_each(out: &mut [u8], at: usize, tags: &[u16], n: usize) -> usize
-    requires { ⌜ n ≤ 4 ⌝ }
-    ensures { λ r. ⌜ (Put (now (out .entry)) at (nextAll (now (tags .entry)) n) (now (out .exit)) r) × (length (nextAll (now (tags .entry)) n) ≤ 44) ⌝ }
-{
-    let mut after = at;
-    let mut i: usize = 0;
-    while i < n {
-        after = put_pair(out, after, b" ", tag_at(tags, i) as u32);
-        i += 1;
-    }
-    after
-}
-
-// The line of contents: how many tags there are, four at the most, and the tags.
-pub fn put_tags(out: &mut [u8], at: usize, tags: &[u16], count: usize) -> usize
-    ensures { λ r. ⌜ (Put (now (out .entry)) at (tagsText (min count 4) (now (tags .entry))) (now (out .exit)) r) × (length (tagsText (min count 4) (now (tags .entry))) ≤ 60) ⌝ }
-{
-    let n = smaller(count, 4);
-    let a = put_pair(out, at, b"tags ", n as u32);
-    let b = put_each(out, a, tags, n);
-    put_byte(out, b, 10)
 }

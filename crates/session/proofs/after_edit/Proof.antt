@@ -1,6 +1,5 @@
 -- `after_edit`: the number of the edit's answer. Assumes nothing.
-use mathlib.Core.Path.{_≡_, refl, sym, ap, _∙_}
-use native.Mathlib.Omega.{arith}
+use mathlib.Core.Path.{refl}
 use Rattle.session.proofs.Texts as texts
 use borrow.Author.Needs.{needs}
 use Rattle.session.proofs.after_edit.Statement.{statement}

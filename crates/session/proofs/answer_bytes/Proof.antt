@@ -1,6 +1,5 @@
 -- `answer_bytes`: by cases on the call. Assumes nothing.
-use mathlib.Core.Path.{_≡_, refl, sym, ap, _∙_}
-use native.Mathlib.Omega.{arith}
+use mathlib.Core.Path.{ap}
 use Rattle.session.proofs.Texts as texts
 use Rattle.journal.specs.Calls.{afterEdit, sheetStep}
 use Rattle.session.specs.Lines.{spelledBy}

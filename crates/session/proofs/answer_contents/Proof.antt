@@ -1,6 +1,4 @@
 -- `answer_contents`: by cases on whether the block can be read. Assumes nothing.
-use mathlib.Core.Path.{_≡_, refl, sym, ap, _∙_}
-use native.Mathlib.Omega.{arith}
 use Rattle.session.proofs.Texts as texts
 use borrow.Author.Needs.{needs}
 use Rattle.session.proofs.answer_contents.Statement.{statement}

@@ -1,6 +1,4 @@
 -- `answer_load`: the sheet's load of the parts of the bytes. Assumes nothing.
-use mathlib.Core.Path.{_≡_, refl, sym, ap, _∙_}
-use native.Mathlib.Omega.{arith}
 use Rattle.session.proofs.Texts as texts
 use borrow.Author.Needs.{needs}
 use Rattle.session.proofs.answer_load.Statement.{statement}

@@ -1,6 +1,4 @@
 -- `head_numbers`: the numbers in the order of headNumbers. Assumes nothing.
-use mathlib.Core.Path.{_≡_, refl, sym, ap, _∙_}
-use native.Mathlib.Omega.{arith}
 use Rattle.session.proofs.Texts as texts
 use borrow.Author.Needs.{needs}
 use Rattle.session.proofs.head_numbers.Statement.{statement}

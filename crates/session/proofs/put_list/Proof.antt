@@ -1,5 +1,5 @@
 -- `put_list`: by cases on the answer. Assumes nothing.
-use mathlib.Core.Path.{_≡_, refl, sym, ap, _∙_}
+use mathlib.Core.Path.{refl}
 use native.Mathlib.Omega.{arith}
 use Rattle.session.proofs.Texts as texts
 use Rattle.listing.specs.Listing.{listNumber}

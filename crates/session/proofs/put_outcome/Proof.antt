@@ -1,6 +1,4 @@
 -- `put_outcome`: the line of 0 and of any other number. Assumes nothing.
-use mathlib.Core.Path.{_≡_, refl, sym, ap, _∙_}
-use native.Mathlib.Omega.{arith}
 use Rattle.session.proofs.Texts as texts
 use borrow.Author.Needs.{needs}
 use Rattle.session.proofs.put_outcome.Statement.{statement}

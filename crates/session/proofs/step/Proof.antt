@@ -1,6 +1,5 @@
 -- `step`: by whether the line decodes. Assumes nothing.
-use mathlib.Core.Path.{_≡_, refl, sym, ap, _∙_}
-use native.Mathlib.Omega.{arith}
+use mathlib.Core.Path.{sym}
 use Rattle.session.proofs.Laws as laws
 use lib.Seq.{length-take-le}
 use borrow.Author.Needs.{needs}

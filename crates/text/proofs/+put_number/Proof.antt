@@ -1,7 +1,7 @@
 -- `put_number`: below 10 one digit, else the digits of the tenth and one more. The number falls at each call. Assumes nothing.
 use mathlib.Core.Path.{_∙_}
 use Rattle.text.proofs.Laws as laws
-use Rattle.text.proofs.Lines as lines
+use Rattle.text.proofs.Numbers as numbers
 use native.Mathlib.Omega.{arith}
 use Prim.Native.Nat.{ℕ, _<_}
 use borrow.Fn.Kinds.{In}
@@ -46,7 +46,7 @@ put-number-same-length : (t : ℕ) → put-number-lts.Need-same-length (claims t
 put-number-same-length t c = laws.put-same (c .before .before .put-byte .ensures)
 
 put-number-returns : (t : ℕ) → put-number-lts.Need-returns (claims t) (put-number-at t) put-number.Post
-put-number-returns t c = lines.number-few _ (omega (arith, (c .before .before .before .before .before .if1 .taken))) (c .before .before .before .last-digit .ensures) (c .before .before .put-byte .ensures)
+put-number-returns t c = numbers.number-few _ (omega (arith, (c .before .before .before .before .before .if1 .taken))) (c .before .before .before .last-digit .ensures) (c .before .before .put-byte .ensures)
 
 put-number-put-number-requires : (t : ℕ) → put-number-lts.Need-put-number-requires (claims t) (put-number-at t) put-number.Post
 put-number-put-number-requires t c κs = (omega arith, tt)
@@ -61,7 +61,7 @@ put-number-same-length-2 : (t : ℕ) → put-number-lts.Need-same-length-2 (clai
 put-number-same-length-2 t c = laws.put-same (c .before .before .put-byte2 .ensures) ∙ laws.put-same (c .before .before .before .before .before .before .before .put-number .ensures .0)
 
 put-number-returns-2 : (t : ℕ) → put-number-lts.Need-returns-2 (claims t) (put-number-at t) put-number.Post
-put-number-returns-2 t c = lines.number-more _ (omega arith) (omega (arith, (c .before .before .before .before .before .before .before .before .before .if1 .left))) (c .before .before .before .last-digit2 .ensures) (c .before .before .before .before .before .before .before .put-number .ensures .0) (c .before .before .put-byte2 .ensures)
+put-number-returns-2 t c = numbers.number-more _ (omega arith) (omega (arith, (c .before .before .before .before .before .before .before .before .before .if1 .left))) (c .before .before .before .last-digit2 .ensures) (c .before .before .before .before .before .before .before .put-number .ensures .0) (c .before .before .put-byte2 .ensures)
 
 pub +put-number-spec : {M : Type 1} → statement M
 +put-number-spec = close μ-put-number λ t. put-number-lts.spec (claims t)

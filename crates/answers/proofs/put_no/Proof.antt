@@ -1,11 +1,11 @@
 -- `put_no`: the word, the number and the feed, joined. Assumes nothing.
 use mathlib.Core.Path.{refl}
 use Rattle.text.proofs.Laws.{_▹_}
-use Rattle.text.proofs.Lines.{numbered, ended, noWord}
-use Rattle.text.specs.Answers.{noText}
+use Rattle.answers.specs.Answers.{noWord, noText}
+use Rattle.answers.proofs.Lines.{numbered, ended}
 use borrow.Author.Needs.{needs}
-use Rattle.text.proofs.put_no.Statement.{statement}
-use Rattle.text.proofs.put_no.Tie as tie
+use Rattle.answers.proofs.put_no.Statement.{statement}
+use Rattle.answers.proofs.put_no.Tie as tie
 
 slice-aggregate-put-pair : tie.Need-slice-aggregate-put-pair
 slice-aggregate-put-pair c = search needs

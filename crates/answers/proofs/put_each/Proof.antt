@@ -1,13 +1,13 @@
 -- `put_each`: the loop's invariant is that the first i tags are put, 11 characters a tag at the most. Assumes nothing.
 use Rattle.text.proofs.Laws as laws
-use Rattle.text.proofs.Lines.{numbered, space}
+use Rattle.answers.specs.Answers.{space, nextAll}
+use Rattle.answers.proofs.Lines.{numbered}
 use mathlib.Core.Path.{refl}
 use native.Mathlib.Omega.{arith}
 use borrow.Author.Needs.{needs}
 use Prim.Native.Nat.{_≤_, _-_, _*_}
-use Rattle.text.specs.Answers.{nextAll}
-use Rattle.text.proofs.put_each.Statement.{statement}
-use Rattle.text.proofs.put_each.Tie as tie
+use Rattle.answers.proofs.put_each.Statement.{statement}
+use Rattle.answers.proofs.put_each.Tie as tie
 
 abbrev Inv-loop : tie.InvT-loop
 Inv-loop out₀ at tags n after₀ i₀ t7 out after i = (i ≤ n) × laws.Puts out₀ at (nextAll tags i) (i * 11) out after

@@ -1,11 +1,11 @@
 -- `put_points`: the loop's invariant is that the lines of the first i points are put, 66 characters a line at the most. Assumes nothing.
 use Rattle.text.proofs.Laws as laws
 use mathlib.Core.Path.{refl}
 use native.Mathlib.Omega.{arith}
 use Prim.Native.Nat.{_≤_, _-_, _*_}
-use Rattle.text.specs.Answers.{pointsText}
-use Rattle.text.proofs.put_points.Statement.{statement}
-use Rattle.text.proofs.put_points.Tie as tie
+use Rattle.answers.specs.Answers.{pointsText}
+use Rattle.answers.proofs.put_points.Statement.{statement}
+use Rattle.answers.proofs.put_points.Tie as tie
 
 abbrev Inv-loop : tie.InvT-loop
 Inv-loop out₀ at words count n next₀ i₀ out next i = (i ≤ n) × laws.Puts out₀ at (pointsText words i) (i * 66) out next

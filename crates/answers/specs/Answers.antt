@@ -2,18 +2,39 @@
 use Prim.Native.Nat.{ℕ, zero, suc, _+_, _*_}
 use mathlib.Core.List.{List, [], _∷_, _++_}
 use lib.ListN.{getD}
-use Rattle.text.specs.Number.{digitsOf}
+use Rattle.text.specs.Number.{digitsOf, pair}
 
 abbrev pub feed : List ℕ
 feed = 10 ∷ []
 
--- a word and a number
-abbrev pub pair : List ℕ → ℕ → List ℕ
-pair word n = word ++ digitsOf n
+-- the words of the lines, with the spaces around them
+abbrev pub space : List ℕ
+space = 32 ∷ []
+
+abbrev pub noWord : List ℕ
+noWord = 110 ∷ 111 ∷ 32 ∷ []
+
+abbrev pub tagsWord : List ℕ
+tagsWord = 116 ∷ 97 ∷ 103 ∷ 115 ∷ 32 ∷ []
+
+abbrev pub frameWord : List ℕ
+frameWord = 102 ∷ 114 ∷ 97 ∷ 109 ∷ 101 ∷ 32 ∷ []
+
+abbrev pub pointsWord : List ℕ
+pointsWord = 32 ∷ 112 ∷ 111 ∷ 105 ∷ 110 ∷ 116 ∷ 115 ∷ 32 ∷ []
+
+abbrev pub primaryWord : List ℕ
+primaryWord = 32 ∷ 112 ∷ 114 ∷ 105 ∷ 109 ∷ 97 ∷ 114 ∷ 121 ∷ 32 ∷ []
+
+abbrev pub modeWord : List ℕ
+modeWord = 32 ∷ 109 ∷ 111 ∷ 100 ∷ 101 ∷ 32 ∷ []
+
+abbrev pub originWord : List ℕ
+originWord = 32 ∷ 111 ∷ 114 ∷ 105 ∷ 103 ∷ 105 ∷ 110 ∷ 32 ∷ []
 
 -- a space and a number
 abbrev pub next : ℕ → List ℕ
-next n = pair (32 ∷ []) n
+next n = pair space n
 
 -- "It prints `ok`"
 abbrev pub okText : List ℕ
@@ -21,7 +42,7 @@ okText = 111 ∷ 107 ∷ 10 ∷ []
 
 -- "`no N`"
 unfoldable pub noText : ℕ → List ℕ
-noText n = pair (110 ∷ 111 ∷ 32 ∷ []) n ++ feed
+noText n = pair noWord n ++ feed
 
 -- the first n numbers of a list, each after a space
 unfoldable pub nextAll : List ℕ → ℕ → List ℕ
@@ -30,17 +51,17 @@ nextAll ws (suc n) = nextAll ws n ++ next (getD ws n 0)
 
 -- "`tags` with count and tags in decimal (unused places not printed)"
 unfoldable pub tagsText : ℕ → List ℕ → List ℕ
-tagsText count tags = pair (116 ∷ 97 ∷ 103 ∷ 115 ∷ 32 ∷ []) count ++ nextAll tags count ++ feed
+tagsText count tags = pair tagsWord count ++ nextAll tags count ++ feed
 
 -- "for list and fit a head line": `frame W H points N primary P mode M origin O`, of the six numbers that a listing gives
 unfoldable pub headText : List ℕ → List ℕ
 headText given =
-    pair (102 ∷ 114 ∷ 97 ∷ 109 ∷ 101 ∷ 32 ∷ []) (getD given 0 0)
+    pair frameWord (getD given 0 0)
     ++ next (getD given 1 0)
-    ++ pair (32 ∷ 112 ∷ 111 ∷ 105 ∷ 110 ∷ 116 ∷ 115 ∷ 32 ∷ []) (getD given 2 0)
-    ++ pair (32 ∷ 112 ∷ 114 ∷ 105 ∷ 109 ∷ 97 ∷ 114 ∷ 121 ∷ 32 ∷ []) (getD given 3 0)
-    ++ pair (32 ∷ 109 ∷ 111 ∷ 100 ∷ 101 ∷ 32 ∷ []) (getD given 4 0)
-    ++ pair (32 ∷ 111 ∷ 114 ∷ 105 ∷ 103 ∷ 105 ∷ 110 ∷ 32 ∷ []) (getD given 5 0)
+    ++ pair pointsWord (getD given 2 0)
+    ++ pair primaryWord (getD given 3 0)
+    ++ pair modeWord (getD given 4 0)
+    ++ pair originWord (getD given 5 0)
     ++ feed
 
 -- "one line a point with its six numbers": point i of a buffer

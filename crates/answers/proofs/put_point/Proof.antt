@@ -1,12 +1,12 @@
 -- `put_point`: six numbers and the feed, joined. c1 to c6 are the places after the six. Assumes nothing.
 use mathlib.Core.List.{[]}
 use Rattle.text.proofs.Laws.{_▹_, put-same}
-use Rattle.text.proofs.Lines.{numbered, ended, space}
-use Rattle.text.specs.Answers.{pointText}
+use Rattle.answers.specs.Answers.{space, pointText}
+use Rattle.answers.proofs.Lines.{numbered, ended}
 use native.Mathlib.Omega.{arith}
 use borrow.Author.Needs.{needs}
-use Rattle.text.proofs.put_point.Statement.{statement}
-use Rattle.text.proofs.put_point.Tie as tie
+use Rattle.answers.proofs.put_point.Statement.{statement}
+use Rattle.answers.proofs.put_point.Tie as tie
 
 mul-w : tie.Need-mul-w
 mul-w c = search needs

@@ -1,10 +1,10 @@
 -- `put_head`: six words with their numbers, and the feed, joined. c1 to c6 are the places after the six. Assumes nothing.
 use Rattle.text.proofs.Laws.{_▹_, put-same}
-use Rattle.text.proofs.Lines.{numbered, ended, frameWord, space, pointsWord, primaryWord, modeWord, originWord}
-use Rattle.text.specs.Answers.{headText}
+use Rattle.answers.specs.Answers.{frameWord, space, pointsWord, primaryWord, modeWord, originWord, headText}
+use Rattle.answers.proofs.Lines.{numbered, ended}
 use borrow.Author.Needs.{needs}
-use Rattle.text.proofs.put_head.Statement.{statement}
-use Rattle.text.proofs.put_head.Tie as tie
+use Rattle.answers.proofs.put_head.Statement.{statement}
+use Rattle.answers.proofs.put_head.Tie as tie
 
 slice-aggregate-put-pair : tie.Need-slice-aggregate-put-pair
 slice-aggregate-put-pair c = search needs

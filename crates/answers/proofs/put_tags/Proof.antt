@@ -1,10 +1,10 @@
 -- `put_tags`: the count, the tags and the feed, joined. Assumes nothing.
 use Rattle.text.proofs.Laws.{_▹_}
-use Rattle.text.proofs.Lines.{numbered, ended, tagsWord}
-use Rattle.text.specs.Answers.{tagsText}
+use Rattle.answers.specs.Answers.{tagsWord, tagsText}
+use Rattle.answers.proofs.Lines.{numbered, ended}
 use borrow.Author.Needs.{needs}
-use Rattle.text.proofs.put_tags.Statement.{statement}
-use Rattle.text.proofs.put_tags.Tie as tie
+use Rattle.answers.proofs.put_tags.Statement.{statement}
+use Rattle.answers.proofs.put_tags.Tie as tie
 
 smaller-requires : tie.Need-smaller-requires
 smaller-requires c κs = tt
