@@ -11,8 +11,8 @@ use lib.Seq.{take-suc, take-all, take-add, drop-drop, getD-drop, length-take-le}
 use native.Mathlib.Omega.{arith}
 use native.Mathlib.Nat.{add-zero}
 use borrow.Author.Tests.{leb-true, eqb-true}
-use Rattle.tiff.specs.Numbers.{u16Of, u32Of}
-use Rattle.tiff.specs.declared.io.ByteOrder.the-variants.{Big}
+use Rattle.numbers.specs.Numbers.{u16Of, u32Of}
+use Rattle.numbers.specs.declared.io.ByteOrder.the-variants.{Big}
 use Rattle.reading.specs.declared.geometry.Size.{Size}
 use Rattle.text.proofs.Lists.{by-cond, and-both}
 use Rattle.hex.specs.Hex.{sum, checks}

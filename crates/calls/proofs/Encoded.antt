@@ -10,8 +10,8 @@ use lib.ListN.{length, getD, drop, length-append}
 use lib.Seq.{take-append-seam, drop-append-seam, drop-drop}
 use native.Mathlib.Omega.{arith}
 use borrow.Author.Tests.{le-leb, leb-true, eq-eqb}
-use Rattle.tiff.specs.Numbers.{u16Of, u32Of}
-use Rattle.tiff.specs.declared.io.ByteOrder.the-variants.{Big}
+use Rattle.numbers.specs.Numbers.{u16Of, u32Of}
+use Rattle.numbers.specs.declared.io.ByteOrder.the-variants.{Big}
 use Rattle.reading.specs.declared.geometry.Size.{Size}
 use Rattle.reading.specs.declared.geometry.OptionalSize.{OptionalSize}
 use Rattle.reading.specs.declared.geometry.OptionalSize.the-variants.{Missing, Given}

@@ -8,8 +8,8 @@ use lib.Dec.{leb, eqb}
 use lib.ListN.{length, getD, take, drop}
 use lib.Seq.{drop-drop}
 use borrow.Author.Tests.{le-leb, lt-leb, eq-eqb, ne-eqb, not-true, not-false}
-use Rattle.tiff.specs.Numbers.{u32Of}
-use Rattle.tiff.specs.declared.io.ByteOrder.the-variants.{Big}
+use Rattle.numbers.specs.Numbers.{u32Of}
+use Rattle.numbers.specs.declared.io.ByteOrder.the-variants.{Big}
 use Rattle.reading.specs.declared.geometry.Size.{Size}
 use Rattle.reading.specs.declared.geometry.OptionalSize.{OptionalSize}
 use Rattle.reading.specs.declared.geometry.OptionalSize.the-variants.{Missing, Given}

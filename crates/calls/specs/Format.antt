@@ -5,8 +5,8 @@ use mathlib.Core.Bool.{Bool, _&&_, _||_, cond}
 use mathlib.Core.List.{List}
 use lib.Dec.{leb, eqb}
 use lib.ListN.{length, getD, take, drop}
-use Rattle.tiff.specs.Numbers.{u32Of}
-use Rattle.tiff.specs.declared.io.ByteOrder.the-variants.{Big}
+use Rattle.numbers.specs.Numbers.{u32Of}
+use Rattle.numbers.specs.declared.io.ByteOrder.the-variants.{Big}
 use Rattle.reading.specs.declared.geometry.Size.{Size}
 use Rattle.reading.specs.declared.geometry.OptionalSize.{OptionalSize}
 use Rattle.reading.specs.declared.geometry.OptionalSize.the-variants.{Missing, Given}

@@ -1,12 +1,12 @@
 // The call that the bytes of a line spell, and the parts of the bytes that it is given.
 use hex::is_checked;
+use numbers::io::ByteOrder;
+use numbers::io::head;
+use numbers::io::tail;
+use numbers::io::u8_at;
+use numbers::io::u32_of;
 use reading::geometry::OptionalSize;
 use reading::geometry::Size;
-use tiff::io::ByteOrder;
-use tiff::io::head;
-use tiff::io::tail;
-use tiff::io::u8_at;
-use tiff::io::u32_of;
 ghost use mathlib.Core.Path.{_≡_};
 ghost use Prim.Native.Nat.{_-_, _<_};
 ghost use Rattle.calls.specs.Format.{numberAt, sizeAt, sidesAgree, optional, modelLength, isLoad, loadOf};

@@ -14,7 +14,7 @@ use Rattle.text.proofs.Lists.{by-bool}
 use Rattle.tiff.specs.Outcome.{Outcome, refused, accepted}
 use Rattle.tiff.specs.Block.{blockOf}
 use Rattle.reading.specs.Contents.{Holds, keptTags, listed, ContentsOf, contentsIn, contentsOf}
-use Rattle.tiff.specs.declared.io.ByteOrder.{ByteOrder}
+use Rattle.numbers.specs.declared.io.ByteOrder.{ByteOrder}
 use Rattle.reading.specs.declared.nikon.TagList.{TagList}
 use Rattle.reading.specs.declared.nikon.ContentsAnswer.the-variants.{Unreadable, Listed}
 use Rattle.listing.specs.Listing.{over}

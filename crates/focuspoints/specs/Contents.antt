@@ -7,7 +7,7 @@ use lib.Dec.{ltb}
 use lib.ListN.{getD, length, take, drop}
 use Rattle.tiff.specs.Outcome.{Outcome, refused, accepted}
 use Rattle.reading.specs.Contents.{Holds, keptTags}
-use Rattle.tiff.specs.declared.io.ByteOrder.{ByteOrder}
+use Rattle.numbers.specs.declared.io.ByteOrder.{ByteOrder}
 use Rattle.reading.specs.declared.nikon.TagList.{TagList}
 use Rattle.reading.specs.declared.nikon.ContentsAnswer.{ContentsAnswer}
 use Rattle.reading.specs.declared.nikon.ContentsAnswer.the-variants.{Unreadable, Listed}

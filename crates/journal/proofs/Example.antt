@@ -1,7 +1,7 @@
 -- 01's whole case: the journal's answers are computed, and the claim gives the sheet's. Assumes nothing.
 use mathlib.Core.Path.{refl, _∙_}
-use Rattle.tiff.specs.Bytes.{same}
-use Rattle.tiff.specs.Numbers.{u16Of, u32Of, shortsOf}
+use Rattle.numbers.specs.Bytes.{same}
+use Rattle.numbers.specs.Numbers.{u16Of, u32Of, shortsOf}
 use Rattle.tiff.specs.Block.{offsetOf, entryCount, directoryOf, inOrder, byMark, blockOf, sizeOf, entryOf, hasTag, firstOf, findOf}
 use Rattle.reading.specs.Values.{manualFocusOf, cropHiSpeedOf, cropAreaOf}
 use Rattle.reading.specs.Record.{layoutAmong, layoutOf, areaModeOf, maskOf, sizeAt, recordIn, recordOf, afInfo2Of}

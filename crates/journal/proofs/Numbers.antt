@@ -8,7 +8,7 @@ use lib.Dec.{leb, eqb}
 use lib.ListN.{length, take}
 use native.Mathlib.Omega.{arith}
 use Rattle.tiff.specs.Block.{blockOf, byMark, inOrder, byDirectory, directoryOf, littleMark, bigMark, findOf, typeOf, valueOf}
-use Rattle.tiff.specs.Bytes.{same}
+use Rattle.numbers.specs.Bytes.{same}
 use Rattle.tiff.specs.Outcome.{Outcome, refused, accepted}
 use Rattle.reading.specs.Record.{afInfo2Of, recordOf, byLayout, layoutOf, recordIn}
 use Rattle.reading.specs.Values.{manualFocusOf, cropHiSpeedOf, cropAreaOf}
@@ -18,8 +18,8 @@ use Rattle.reading.specs.declared.geometry.Size.{Size}
 use Rattle.reading.specs.declared.focus.FocusAreaMode.{FocusAreaMode}
 use Rattle.tiff.specs.declared.ifd.Ifd.{Ifd}
 use Rattle.tiff.specs.declared.ifd.Ifd.the-variants.{Outside, Inside}
-use Rattle.tiff.specs.declared.io.ByteOrder.{ByteOrder}
-use Rattle.tiff.specs.declared.io.ByteOrder.the-variants.{Little, Big}
+use Rattle.numbers.specs.declared.io.ByteOrder.{ByteOrder}
+use Rattle.numbers.specs.declared.io.ByteOrder.the-variants.{Little, Big}
 use Rattle.reading.specs.declared.nikon.Crop.{Crop}
 use Rattle.reading.specs.declared.nikon.Crop.the-variants.{Unrecorded, Recorded}
 use Rattle.reading.specs.declared.nikon.CropArea.{CropArea}

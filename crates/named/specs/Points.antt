@@ -2,7 +2,7 @@
 use Prim.Native.Nat.{ℕ}
 use mathlib.Core.Bool.{Bool}
 use mathlib.Core.List.{List, [], _∷_}
-use Rattle.tiff.specs.Bytes.{same}
+use Rattle.numbers.specs.Bytes.{same}
 use Rattle.named.specs.declared.points.TablePoint.{TablePoint}
 
 -- NIKON D600

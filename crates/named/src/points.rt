@@ -259,7 +259,7 @@ const POINTS: [TablePoint; 39] = [
 pub fn has_table(model: &[u8]) -> bool
     ensures { λ r. ⌜ r ≡ hasTable (now (model .entry)) ⌝ }
 {
-    tiff::io::equals(model, b"NIKON D600")
+    numbers::io::equals(model, b"NIKON D600")
 }
 
 // The whole table.

@@ -27,10 +27,10 @@ use denote.Struct.Rest.{all-own, own-open, own-shut}
 use denote.Struct.Values.{Values}
 use denote.Enum.Laws as EL
 use denote.Ref.{RefT}
-use Rattle.tiff.specs.declared.io.ByteOrder.{ByteOrder}
-use Rattle.tiff.specs.declared.io.ByteOrder.the-variants.{Little, Big}
-use Rattle.tiff.proofs.io.ByteOrder as O
-use Rattle.tiff.proofs.io.ByteOrder.Laws as O′
+use Rattle.numbers.specs.declared.io.ByteOrder.{ByteOrder}
+use Rattle.numbers.specs.declared.io.ByteOrder.the-variants.{Little, Big}
+use Rattle.numbers.proofs.io.ByteOrder as O
+use Rattle.numbers.proofs.io.ByteOrder.Laws as O′
 use Rattle.note.specs.declared.Note.{Note}
 use Rattle.note.proofs.Note as T
 use Rattle.note.proofs.Note.Laws as T′

@@ -34,9 +34,9 @@ use denote.Triple.Spec.{Meets, tripleOf}
 use denote.Triple.Walked.{says, Stays, stay-none, walkOf, goes-none, Walks, ends-at, walked, walk-meets}
 use denote.Exit.{yes}
 use denote.Triple.Clauses.{Ended, Clauses, closing, ensured, lasts}
-use Rattle.tiff.specs.declared.io.ByteOrder.{ByteOrder}
-use Rattle.tiff.proofs.io.ByteOrder as O
-use Rattle.tiff.proofs.io.ByteOrder.Laws as O′
+use Rattle.numbers.specs.declared.io.ByteOrder.{ByteOrder}
+use Rattle.numbers.proofs.io.ByteOrder as O
+use Rattle.numbers.proofs.io.ByteOrder.Laws as O′
 use Rattle.note.specs.declared.Note.{Note}
 use Rattle.note.proofs.Note.Laws as T′
 use Rattle.note.proofs.Apart.{lent, B, D, L, noteVal, blockVal, orderVal, order-typed, Own, Parts, parts}

@@ -6,7 +6,7 @@ use mathlib.Core.List.{List}
 use Rattle.tiff.specs.Outcome.{Outcome, refused, accepted}
 use Rattle.tiff.specs.Block.{blockOf}
 use Rattle.reading.specs.Record.{recordMeans, afInfo2Of}
-use Rattle.tiff.specs.declared.io.ByteOrder.{ByteOrder}
+use Rattle.numbers.specs.declared.io.ByteOrder.{ByteOrder}
 use Rattle.reading.specs.declared.nikon.FocusRecord.{FocusRecord}
 use Rattle.note.specs.declared.NoteRecord.{NoteRecord}
 use Rattle.note.specs.declared.NoteRecord.the-variants.{Unreadable, Read}

@@ -1,6 +1,6 @@
 -- The starred examples of 01 hold: the table is computed by the definitions. Assumes nothing.
 use mathlib.Core.Path.{refl}
-use Rattle.tiff.specs.Bytes.{same}
+use Rattle.numbers.specs.Bytes.{same}
 use Rattle.reading.specs.Focus.{inFocusNumber}
 use Rattle.reading.specs.Record.{layoutAmong, layoutOf, recordOf}
 use Rattle.fitting.specs.Fit.{axisFits, hasZeroSide, centerLiesOn, areaFits, noArea, liesOn, pointFits, sameSize}

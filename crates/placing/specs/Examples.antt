@@ -8,7 +8,7 @@ use lib.Dec.{eqb}
 use Rattle.tiff.specs.Outcome.{Outcome, refused, accepted, numberOf}
 use Rattle.reading.specs.Focus.{inFocusNumber}
 use Rattle.reading.specs.Record.{recordOf}
-use Rattle.tiff.specs.declared.io.ByteOrder.the-variants.{Big}
+use Rattle.numbers.specs.declared.io.ByteOrder.the-variants.{Big}
 use Rattle.reading.specs.declared.geometry.Size.{Size}
 use Rattle.reading.specs.declared.geometry.OptionalSize.{OptionalSize}
 use Rattle.reading.specs.declared.geometry.OptionalSize.the-variants.{Missing, Given}

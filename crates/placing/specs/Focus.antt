@@ -6,7 +6,7 @@ use Rattle.tiff.specs.Outcome.{Outcome, refused, accepted}
 use Rattle.tiff.specs.Block.{blockOf}
 use Rattle.reading.specs.Values.{manualFocusOf, cropHiSpeedOf, cropAreaOf}
 use Rattle.reading.specs.Record.{afInfo2Of}
-use Rattle.tiff.specs.declared.io.ByteOrder.{ByteOrder}
+use Rattle.numbers.specs.declared.io.ByteOrder.{ByteOrder}
 use Rattle.reading.specs.declared.geometry.OptionalSize.{OptionalSize}
 use Rattle.reading.specs.declared.nikon.Crop.{Crop}
 use Rattle.reading.specs.declared.nikon.CropArea.{CropArea}

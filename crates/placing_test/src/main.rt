@@ -6,9 +6,9 @@ use libc::STDIN_FILENO;
 use libc::STDOUT_FILENO;
 use load::focus::FocusAnswer;
 use load::focus::FocusPoints;
+use numbers::io::ByteOrder;
 use reading::geometry::OptionalSize;
 use reading::geometry::Size;
-use tiff::io::ByteOrder;
 ghost use mathlib.Core.Path.{_≡_};
 ghost use lib.ListN.{length};
 
@@ -61,7 +61,7 @@ fn print_placed(f: FocusPoints) {
 
 // The 32-bit number at a place.
 fn number_at(s: &[u8], at: usize) -> u32 {
-    tiff::io::u32_of(tiff::io::tail(s, at), ByteOrder::Big)
+    numbers::io::u32_of(numbers::io::tail(s, at), ByteOrder::Big)
 }
 
 fn size_at(s: &[u8], at: usize, given: bool) -> OptionalSize {
@@ -69,20 +69,20 @@ fn size_at(s: &[u8], at: usize, given: bool) -> OptionalSize {
         return OptionalSize::Missing;
     }
     let width = number_at(s, at);
-    let height = number_at(tiff::io::tail(s, at), 4);
+    let height = number_at(numbers::io::tail(s, at), 4);
     OptionalSize::Given(Size { width, height })
 }
 
 // Answers one load.
 fn answer(load: &[u8]) {
-    let flags = tiff::io::u8_at(load, 0);
+    let flags = numbers::io::u8_at(load, 0);
     let raw = size_at(load, 1, flags % 2 == 1);
     let picture = size_at(load, 9, flags / 2 % 2 == 1);
-    let model_len = tiff::io::u8_at(load, 17) as usize;
-    let block_len = tiff::io::u16_of(tiff::io::tail(load, 18), ByteOrder::Big) as usize;
-    let rest = tiff::io::tail(load, 20);
-    let model = tiff::io::head(rest, model_len);
-    let block = tiff::io::head(tiff::io::tail(rest, model_len), block_len);
+    let model_len = numbers::io::u8_at(load, 17) as usize;
+    let block_len = numbers::io::u16_of(numbers::io::tail(load, 18), ByteOrder::Big) as usize;
+    let rest = numbers::io::tail(load, 20);
+    let model = numbers::io::head(rest, model_len);
+    let block = numbers::io::head(numbers::io::tail(rest, model_len), block_len);
     let f = placing::nikon::focus(block, raw, picture, model);
     let how = f.answer;
     match how {

@@ -1,8 +1,7 @@
 -- Laws of cutting a text at its first zero byte and of trimming spaces: one byte further from the front, or one less from
 -- the end, as the loops take them. Assumes nothing.
 use mathlib.Core.Path.{_≡_, refl, _∙_, sym, ap}
-use mathlib.Core.Bool.{cond, true, false}
-use mathlib.Core.List.{List, [], _∷_, _++_, append-nil, append-assoc, reverse, reverse-append, reverse-cons, reverse-reverse}
+use mathlib.Core.List.{List, [], _∷_, _++_, append-nil, reverse, reverse-append, reverse-cons, reverse-reverse}
 use Prim.Native.Nat.{ℕ, zero, suc, _+_, _-_, _≤_, _<_}
 use native.Mathlib.Numerals.{add-one}
 use native.Mathlib.Omega.{arith}

@@ -1,13 +1,13 @@
 -- 01, "Contents": which of the four tags have a kept entry.
 use Prim.Native.Nat.{ℕ, _+_, _-_}
 use mathlib.Core.Path.{_≡_}
-use mathlib.Core.Bool.{Bool, true, false, cond}
+use mathlib.Core.Bool.{cond}
 use mathlib.Core.List.{List, [], _∷_, _++_}
 use lib.ListN.{length, take, drop, replicate}
 use lib.Dec.{eqb}
 use Rattle.tiff.specs.Outcome.{Outcome, refused, accepted}
 use Rattle.tiff.specs.Block.{blockOf, findOf, isKept}
-use Rattle.tiff.specs.declared.io.ByteOrder.{ByteOrder}
+use Rattle.numbers.specs.declared.io.ByteOrder.{ByteOrder}
 use Rattle.reading.specs.declared.nikon.ContentsAnswer.{ContentsAnswer}
 use Rattle.reading.specs.declared.nikon.ContentsAnswer.the-variants.{Unreadable, Listed}
 use Rattle.reading.specs.declared.nikon.TagList.{TagList}

@@ -1,14 +1,14 @@
 -- 01, "Record": the four layouts, the seven versions, and what a record says.
 use Prim.Native.Nat.{ℕ, _+_, _*_}
-use mathlib.Core.Bool.{Bool, true, false, cond, _&&_, _||_}
+use mathlib.Core.Bool.{cond, _&&_, _||_}
 use mathlib.Core.List.{List, [], _∷_}
 use lib.ListN.{length, getD, drop, take}
 use lib.Dec.{leb, eqb}
 use Rattle.tiff.specs.Outcome.{Outcome, refused, accepted}
-use Rattle.tiff.specs.Numbers.{shortsOf}
-use Rattle.tiff.specs.Bytes.{same}
+use Rattle.numbers.specs.Numbers.{shortsOf}
+use Rattle.numbers.specs.Bytes.{same}
 use Rattle.tiff.specs.Block.{findOf, typeOf, valueOf}
-use Rattle.tiff.specs.declared.io.ByteOrder.{ByteOrder}
+use Rattle.numbers.specs.declared.io.ByteOrder.{ByteOrder}
 use Rattle.reading.specs.declared.geometry.Size.{Size}
 use Rattle.reading.specs.declared.focus.InFocus.{InFocus}
 use Rattle.reading.specs.declared.focus.InFocus.the-variants.{Unrecorded, No, Yes}

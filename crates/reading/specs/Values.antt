@@ -1,13 +1,13 @@
 -- 01, "Four values": manual focus, the crop, and the crop area. (The fourth, the record, is in Record.)
 use Prim.Native.Nat.{ℕ, zero, suc, _+_, _*_}
-use mathlib.Core.Bool.{Bool, true, false, cond, _&&_, _||_}
+use mathlib.Core.Bool.{Bool, cond, _&&_, _||_}
 use mathlib.Core.List.{List, [], _∷_, reverse}
 use lib.ListN.{length, drop}
 use lib.Dec.{leb, ltb, eqb}
-use Rattle.tiff.specs.Numbers.{u16Of, u32Of}
-use Rattle.tiff.specs.Bytes.{same}
+use Rattle.numbers.specs.Numbers.{u16Of, u32Of}
+use Rattle.numbers.specs.Bytes.{same}
 use Rattle.tiff.specs.Block.{findOf, isKept, typeOf, countOf, valueOf}
-use Rattle.tiff.specs.declared.io.ByteOrder.{ByteOrder}
+use Rattle.numbers.specs.declared.io.ByteOrder.{ByteOrder}
 use Rattle.reading.specs.declared.geometry.Size.{Size}
 use Rattle.reading.specs.declared.geometry.Point.{Point}
 use Rattle.reading.specs.declared.geometry.OptionalSize.{OptionalSize}

@@ -4,14 +4,14 @@ use crate::focus::InFocus;
 use crate::geometry::OptionalSize;
 use crate::geometry::Point;
 use crate::geometry::Size;
+use numbers::io::ByteOrder;
+use numbers::io::Pair;
 use tiff::ifd::Block;
-use tiff::io::ByteOrder;
-use tiff::io::Pair;
 ghost use mathlib.Core.Path.{_≡_};
 ghost use Prim.Native.Nat.{_<_};
 ghost use lib.ListN.{getD, drop};
 ghost use Rattle.tiff.specs.Outcome.{numberOf};
-ghost use Rattle.tiff.specs.Numbers.{shortsOf};
+ghost use Rattle.numbers.specs.Numbers.{shortsOf};
 ghost use Rattle.tiff.specs.Block.{blockOf};
 ghost use Rattle.reading.specs.Values.{upToZero, trimStart, trimEnd, isManual, manualFocusOf, numberAt, cropHiSpeedOf, isRectangle, insideRaw, cropAreaOf};
 ghost use Rattle.reading.specs.Record.{versions, noVersion, layouts, noLayout, layoutOf, ifZero, areaModeOf, inFocusOf, maskOf, namedOf, sizeAt, recordIn, recordMeans, recordOf, afInfo2Of};
@@ -33,7 +33,7 @@ fn up_to_zero(s: &[u8]) -> &[u8]
     let mut i: usize = 0;
     while i < s.len() {
         if s[i] == 0 {
-            return tiff::io::head(s, i);
+            return numbers::io::head(s, i);
         }
         i += 1;
     }
@@ -47,11 +47,11 @@ fn trim_start(s: &[u8]) -> &[u8]
     let mut i: usize = 0;
     while i < s.len() {
         if s[i] != b' ' {
-            return tiff::io::tail(s, i);
+            return numbers::io::tail(s, i);
         }
         i += 1;
     }
-    tiff::io::tail(s, i)
+    numbers::io::tail(s, i)
 }
 
 // A text without the spaces at its end.
@@ -62,11 +62,11 @@ fn trim_end(s: &[u8]) -> &[u8]
     while 0 < n {
         let last = n - 1;
         if s[last] != b' ' {
-            return tiff::io::head(s, n);
+            return numbers::io::head(s, n);
         }
         n -= 1;
     }
-    tiff::io::head(s, n)
+    numbers::io::head(s, n)
 }
 
 // Whether a FocusMode text reads MANUAL.
@@ -77,7 +77,7 @@ fn is_manual(value: &[u8]) -> bool
     if 255 < text.len() {
         return false;
     }
-    tiff::io::equals(trim_end(trim_start(text)), b"MANUAL")
+    numbers::io::equals(trim_end(trim_start(text)), b"MANUAL")
 }
 
 // Whether FocusMode records manual focus.
@@ -97,9 +97,9 @@ fn number_at(value: &[u8], order: ByteOrder, typ: u16, i: usize) -> u32
     ensures { λ r. ⌜ r ≡ numberAt order typ (now (value .entry)) i ⌝ }
 {
     if typ == tiff::types::SHORT {
-        return tiff::io::u16_of(tiff::io::tail(value, 2 * i), order) as u32;
+        return numbers::io::u16_of(numbers::io::tail(value, 2 * i), order) as u32;
     }
-    tiff::io::u32_of(tiff::io::tail(value, 4 * i), order)
+    numbers::io::u32_of(numbers::io::tail(value, 4 * i), order)
 }
 
 // What CropHiSpeed records: the crop's mode, the picture's size before and after it, and where it starts.
@@ -340,12 +340,12 @@ fn version_at(i: usize) -> Version
 fn layout_of(value: &[u8]) -> KnownLayout
     ensures { λ r. ⌜ r ≡ layoutOf (now (value .entry)) ⌝ }
 {
-    let start = tiff::io::head(value, 4);
+    let start = numbers::io::head(value, 4);
     let mut i: usize = 0;
     while i < 7 {
         let v = version_at(i);
         let text = v.text;
-        if tiff::io::equals(start, &text) {
+        if numbers::io::equals(start, &text) {
             return KnownLayout::Known(layout_at(v.layout));
         }
         i += 1;
@@ -393,7 +393,7 @@ fn in_focus_at(value: &[u8], place: Place) -> InFocus
 {
     match place {
         Place::At(at) => {
-            let byte = tiff::io::u8_at(value, at);
+            let byte = numbers::io::u8_at(value, at);
             if byte == 0 {
                 return InFocus::No;
             }
@@ -421,9 +421,9 @@ pub enum NamedPoints {
 fn mask_of(s: &[u8]) -> u64
     ensures { λ r. ⌜ r ≡ maskOf (now (s .entry)) ⌝ }
 {
-    let low = tiff::io::u32_of(s, ByteOrder::Little) as u64;
-    let middle = tiff::io::u16_of(tiff::io::tail(s, 4), ByteOrder::Little) as u64;
-    let high = tiff::io::u8_at(s, 6) as u64;
+    let low = numbers::io::u32_of(s, ByteOrder::Little) as u64;
+    let middle = numbers::io::u16_of(numbers::io::tail(s, 4), ByteOrder::Little) as u64;
+    let high = numbers::io::u8_at(s, 6) as u64;
     low + 4294967296 * middle + 281474976710656 * high
 }
 
@@ -432,11 +432,11 @@ fn named_points(value: &[u8], place: Place) -> NamedPoints
 {
     match place {
         Place::At(at) => {
-            let names = tiff::io::tail(value, at);
+            let names = numbers::io::tail(value, at);
             NamedPoints::Named {
-                layout_code: tiff::io::u8_at(names, 0),
-                primary: tiff::io::u8_at(names, 1),
-                mask: mask_of(tiff::io::tail(names, 2)),
+                layout_code: numbers::io::u8_at(names, 0),
+                primary: numbers::io::u8_at(names, 1),
+                mask: mask_of(numbers::io::tail(names, 2)),
             }
         }
         Place::Nowhere => NamedPoints::Unnamed,
@@ -465,9 +465,9 @@ fn shorts_at(value: &[u8], at: usize, order: ByteOrder) -> Pair
     ensures { λ r. ⌜ r ≡ shortsOf order (drop at (now (value .entry))) ⌝ }
 {
     if value.len() < at {
-        return tiff::io::shorts(&value[..0], order);
+        return numbers::io::shorts(&value[..0], order);
     }
-    tiff::io::shorts(&value[at..], order)
+    numbers::io::shorts(&value[at..], order)
 }
 
 fn size_at(value: &[u8], at: usize, order: ByteOrder) -> Size
@@ -492,7 +492,7 @@ fn record_in(value: &[u8], order: ByteOrder, layout: Layout) -> FocusRecord
     let center = size_at(value, center_place, order);
     let area = size_at(value, area_place, order);
     let in_focus = in_focus_at(value, in_focus_place);
-    let area_mode = area_mode(tiff::io::u8_at(value, 4), tiff::io::u8_at(value, 5));
+    let area_mode = area_mode(numbers::io::u8_at(value, 4), numbers::io::u8_at(value, 5));
     let named = named_points(value, named_place);
     FocusRecord {
         frame,

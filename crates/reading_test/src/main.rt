@@ -2,6 +2,7 @@
 // A line that starts with '#' is printed as it is. No contract can say what is printed: that is held to `stdout`.
 use libc::STDIN_FILENO;
 use libc::STDOUT_FILENO;
+use numbers::io::ByteOrder;
 use reading::geometry::OptionalSize;
 use reading::geometry::Size;
 use reading::nikon::AfInfo2;
@@ -12,7 +13,6 @@ use reading::nikon::FocusRecord;
 use reading::nikon::NamedPoints;
 use tiff::ifd::Block;
 use tiff::ifd::Found;
-use tiff::io::ByteOrder;
 ghost use Prim.Native.Nat.{_<_, _≤_, min};
 ghost use mathlib.Core.Path.{_≡_};
 ghost use lib.ListN.{length};
@@ -225,7 +225,7 @@ fn report(s: &[u8]) {
 
 // Answers one line.
 fn answer(line: &[u8]) {
-    if tiff::io::u8_at(line, 0) == b'#' {
+    if numbers::io::u8_at(line, 0) == b'#' {
         text(line);
     } else {
         let mut space = io::buffer();

@@ -16,7 +16,7 @@ use Rattle.tiff.specs.Outcome.{Outcome, refused, accepted}
 use Rattle.tiff.specs.Block.{blockOf, findOf, isKept}
 use Rattle.reading.specs.Focus.{modeNumber}
 use Rattle.reading.specs.Contents.{contentsOf, contentsIn, fourTags, keptAmong, keptTags}
-use Rattle.tiff.specs.declared.io.ByteOrder.{ByteOrder}
+use Rattle.numbers.specs.declared.io.ByteOrder.{ByteOrder}
 use Rattle.reading.specs.declared.geometry.Size.{Size}
 use Rattle.reading.specs.declared.geometry.OptionalSize.{OptionalSize}
 use Rattle.reading.specs.declared.nikon.TagList.{TagList}

@@ -7,12 +7,12 @@ use libc::STDIN_FILENO;
 use libc::STDOUT_FILENO;
 use listing::ListAnswer;
 use listing::Listing;
+use numbers::io::ByteOrder;
 use reading::geometry::OptionalSize;
 use reading::geometry::Size;
 use sheet::Edited;
 use sheet::Loaded;
 use sheet::Sheet;
-use tiff::io::ByteOrder;
 ghost use mathlib.Core.Path.{_≡_};
 ghost use lib.ListN.{length};
 
@@ -97,12 +97,12 @@ fn places() -> [u32; 256]
 
 // The 32-bit number at a place.
 fn number_at(s: &[u8], at: usize) -> u32 {
-    tiff::io::u32_of(tiff::io::tail(s, at), ByteOrder::Big)
+    numbers::io::u32_of(numbers::io::tail(s, at), ByteOrder::Big)
 }
 
 fn size_at(s: &[u8], at: usize) -> Size {
     let width = number_at(s, at);
-    let height = number_at(tiff::io::tail(s, at), 4);
+    let height = number_at(numbers::io::tail(s, at), 4);
     Size { width, height }
 }
 
@@ -114,14 +114,14 @@ fn given_at(s: &[u8], at: usize, given: bool) -> OptionalSize {
 }
 
 fn load(sheet: Sheet, call: &[u8]) -> Sheet {
-    let flags = tiff::io::u8_at(call, 1);
+    let flags = numbers::io::u8_at(call, 1);
     let raw = given_at(call, 2, flags % 2 == 1);
     let picture = given_at(call, 10, flags / 2 % 2 == 1);
-    let model_len = tiff::io::u8_at(call, 18) as usize;
-    let block_len = tiff::io::u16_of(tiff::io::tail(call, 19), ByteOrder::Big) as usize;
-    let rest = tiff::io::tail(call, 21);
-    let model = tiff::io::head(rest, model_len);
-    let block = tiff::io::head(tiff::io::tail(rest, model_len), block_len);
+    let model_len = numbers::io::u8_at(call, 18) as usize;
+    let block_len = numbers::io::u16_of(numbers::io::tail(call, 19), ByteOrder::Big) as usize;
+    let rest = numbers::io::tail(call, 21);
+    let model = numbers::io::head(rest, model_len);
+    let block = numbers::io::head(numbers::io::tail(rest, model_len), block_len);
     after_load(sheet.load(block, raw, picture, model))
 }
 
@@ -146,14 +146,14 @@ fn fit_into(sheet: Sheet, size: Size, out: &mut [u32]) {
 fn list(sheet: Sheet, call: &[u8], out: &mut [u32])
     requires { ⌜ length (now out) ≡ 256 ⌝ }
 {
-    let n = tiff::io::u8_at(call, 1) as usize;
+    let n = numbers::io::u8_at(call, 1) as usize;
     list_into(sheet, &mut out[..n]);
 }
 
 fn fit(sheet: Sheet, call: &[u8], out: &mut [u32])
     requires { ⌜ length (now out) ≡ 256 ⌝ }
 {
-    let n = tiff::io::u8_at(call, 9) as usize;
+    let n = numbers::io::u8_at(call, 9) as usize;
     let size = size_at(call, 1);
     fit_into(sheet, size, &mut out[..n]);
 }
@@ -171,7 +171,7 @@ fn show(sheet: Sheet, call: &[u8], code: u8) {
 
 // Answers one call, and gives the sheet that it leaves.
 fn answer(sheet: Sheet, call: &[u8]) -> Sheet {
-    let code = tiff::io::u8_at(call, 0);
+    let code = numbers::io::u8_at(call, 0);
     match code {
         1 => load(sheet, call),
         2 => cut(sheet, call),

@@ -1,5 +1,5 @@
 -- Laws of the search for a tag: one entry further, and that the entries of a directory lie inside its block. Assumes nothing.
-use mathlib.Core.Path.{_≡_, refl, _∙_, sym}
+use mathlib.Core.Path.{_≡_, refl, sym}
 use mathlib.Core.Bool.{Bool, true, false, cond}
 use mathlib.Core.List.{List}
 use Prim.Native.Nat.{ℕ, zero, suc, _+_, _*_, _-_, _≤_, _<_}
@@ -10,7 +10,7 @@ use borrow.Author.Tests.{leb-true}
 use lib.ListN.{length}
 use lib.Dec.{leb}
 use Rattle.tiff.specs.Block.{firstOf, hasTag, entryOf, directoryOf, offsetOf, entryCount}
-use Rattle.tiff.specs.declared.io.ByteOrder.{ByteOrder}
+use Rattle.numbers.specs.declared.io.ByteOrder.{ByteOrder}
 use Rattle.tiff.specs.declared.ifd.Found.the-variants.{Absent}
 use Rattle.tiff.specs.declared.ifd.Ifd.{Ifd}
 use Rattle.tiff.specs.declared.ifd.Ifd.the-variants.{Inside, Outside}

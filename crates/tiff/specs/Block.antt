@@ -5,10 +5,10 @@ use mathlib.Core.List.{List, [], _∷_}
 use lib.ListN.{length, getD, drop, take}
 use lib.Dec.{leb, ltb, eqb}
 use Rattle.tiff.specs.Outcome.{Outcome, refused, accepted}
-use Rattle.tiff.specs.Numbers.{u16Of, u32Of}
-use Rattle.tiff.specs.Bytes.{same}
-use Rattle.tiff.specs.declared.io.ByteOrder.{ByteOrder}
-use Rattle.tiff.specs.declared.io.ByteOrder.the-variants.{Little, Big}
+use Rattle.numbers.specs.Numbers.{u16Of, u32Of}
+use Rattle.numbers.specs.Bytes.{same}
+use Rattle.numbers.specs.declared.io.ByteOrder.{ByteOrder}
+use Rattle.numbers.specs.declared.io.ByteOrder.the-variants.{Little, Big}
 use Rattle.tiff.specs.declared.ifd.Block.{Block}
 use Rattle.tiff.specs.declared.ifd.Block.the-variants.{Unreadable, Readable}
 use Rattle.tiff.specs.declared.ifd.Ifd.{Ifd}

@@ -1,4 +1,2 @@
 pub mod Outcome
-pub mod Numbers
-pub mod Bytes
 pub mod Block

@@ -1,9 +1,9 @@
 // A block, its directory (IFD), the first kept entry of a tag, and that entry's value.
-use crate::io::ByteOrder;
+use numbers::io::ByteOrder;
 ghost use mathlib.Core.Path.{_≡_};
 ghost use Prim.Native.Nat.{_+_, _*_, _≤_, _<_};
-ghost use lib.ListN.{length, take, drop};
-ghost use Rattle.tiff.specs.Numbers.{u16Of};
+ghost use lib.ListN.{length, drop};
+ghost use Rattle.numbers.specs.Numbers.{u16Of};
 ghost use Rattle.tiff.specs.Block.{blockMeans, blockOf, inOrder, directoryOf, entryOf, hasTag, firstOf, findOf, isKept, typeOf, countOf, valueOf};
 
 // Whether a block can be read, and in which byte order.
@@ -36,8 +36,8 @@ pub enum Found {
 pub fn parse_ifd(block: &[u8], order: ByteOrder) -> Ifd
     ensures { λ r. ⌜ r ≡ directoryOf order (now (block .entry)) ⌝ }
 {
-    let offset = crate::io::u32_of(crate::io::tail(block, 4), order) as usize;
-    let count = crate::io::u16_of(crate::io::tail(block, offset), order) as usize;
+    let offset = numbers::io::u32_of(numbers::io::tail(block, 4), order) as usize;
+    let count = numbers::io::u16_of(numbers::io::tail(block, offset), order) as usize;
     let first = offset + 2;
     if first + 12 * count <= block.len() {
         return Ifd::Inside { first, count };
@@ -64,11 +64,11 @@ pub fn parse_block(block: &[u8]) -> Block
     if 1048576 < block.len() {
         return Block::Unreadable;
     }
-    let mark = crate::io::head(block, 4);
-    if crate::io::equals(mark, b"II*\0") {
+    let mark = numbers::io::head(block, 4);
+    if numbers::io::equals(mark, b"II*\0") {
         return block_in(block, ByteOrder::Little);
     }
-    if crate::io::equals(mark, b"MM\0*") {
+    if numbers::io::equals(mark, b"MM\0*") {
         return block_in(block, ByteOrder::Big);
     }
     Block::Unreadable
@@ -79,7 +79,7 @@ fn u16_at(block: &[u8], at: usize, order: ByteOrder) -> u16
     requires { ⌜ at + 2 ≤ length (now block) ⌝ }
     ensures { λ r. ⌜ r ≡ u16Of order (drop at (now (block .entry))) ⌝ }
 {
-    crate::io::joined_bytes(order, block[at], block[at + 1])
+    numbers::io::joined_bytes(order, block[at], block[at + 1])
 }
 
 // The entry whose 12 bytes start at `at`.
@@ -88,7 +88,7 @@ fn entry_at(block: &[u8], order: ByteOrder, at: usize) -> Found
     ensures { λ r. ⌜ r ≡ entryOf order (now (block .entry)) at ⌝ }
 {
     let typ = u16_at(block, at + 2, order);
-    let count = crate::io::u32_of(crate::io::tail(block, at + 4), order);
+    let count = numbers::io::u32_of(numbers::io::tail(block, at + 4), order);
     let field = at + 8;
     let len = (count as usize) * (crate::types::type_size(typ) as usize);
     if len <= 4 {
@@ -99,7 +99,7 @@ fn entry_at(block: &[u8], order: ByteOrder, at: usize) -> Found
             len,
         };
     }
-    let offset = crate::io::u32_of(crate::io::tail(block, field), order) as usize;
+    let offset = numbers::io::u32_of(numbers::io::tail(block, field), order) as usize;
     if offset + len <= block.len() {
         return Found::Present {
             typ,
@@ -207,8 +207,8 @@ pub fn value_of(block: &[u8], found: Found) -> &[u8]
             count: _,
             start,
             len,
-        } => crate::io::head(crate::io::tail(block, start), len),
-        Found::Damaged { typ: _ } => crate::io::head(block, 0),
-        Found::Absent => crate::io::head(block, 0),
+        } => numbers::io::head(numbers::io::tail(block, start), len),
+        Found::Damaged { typ: _ } => numbers::io::head(block, 0),
+        Found::Absent => numbers::io::head(block, 0),
     }
 }

@@ -6,7 +6,7 @@ use Prim.Native.Nat.{ℕ}
 use denote.Ref.{now}
 use Rattle.tiff.specs.Outcome.{Outcome}
 use Rattle.tiff.specs.Block.{blockOf}
-use Rattle.tiff.specs.declared.io.ByteOrder.{ByteOrder}
+use Rattle.numbers.specs.declared.io.ByteOrder.{ByteOrder}
 use Rattle.note.specs.Note.{noteIn, noteOf}
 use borrow.Author.Needs.{needs}
 use Rattle.note.proofs.record_in.Statement.{statement}

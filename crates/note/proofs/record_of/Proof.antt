@@ -35,10 +35,10 @@ use denote.Triple.Walked.{says, Stays, stay-none, stay-none-slice, walkOf, goes-
 use denote.Exit.{yes}
 use denote.Triple.Clauses.{ensured, lasts}
 use Rattle.reading.specs.Record.{recordMeans, afInfo2Of}
-use Rattle.tiff.specs.declared.io.ByteOrder.{ByteOrder}
+use Rattle.numbers.specs.declared.io.ByteOrder.{ByteOrder}
 use Rattle.reading.specs.declared.nikon.AfInfo2.{AfInfo2}
-use Rattle.tiff.proofs.io.ByteOrder as O
-use Rattle.tiff.proofs.io.ByteOrder.Laws as O′
+use Rattle.numbers.proofs.io.ByteOrder as O
+use Rattle.numbers.proofs.io.ByteOrder.Laws as O′
 use Rattle.note.specs.declared.Note.{Note}
 use Rattle.note.proofs.Note as T
 use Rattle.note.proofs.Note.Laws as T′

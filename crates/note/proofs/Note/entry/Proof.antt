@@ -17,7 +17,7 @@ use denote.Enum.Laws as EL
 use denote.Triple.Spec.{tripleOf}
 use denote.Triple.Table.{entered, cited}
 use Rattle.tiff.specs.Block.{findOf}
-use Rattle.tiff.specs.declared.io.ByteOrder.{ByteOrder}
+use Rattle.numbers.specs.declared.io.ByteOrder.{ByteOrder}
 use Rattle.tiff.specs.declared.ifd.Found.{Found}
 use Rattle.tiff.proofs.ifd.Found as F
 use Rattle.tiff.proofs.ifd.Found.Laws as F′

@@ -31,9 +31,9 @@ use denote.Triple.Spec.{Meets, tripleOf}
 use denote.Triple.Table.{entered}
 use denote.Triple.Walked.{says, Stays, stay-none, stay-none-slice, walkOf, goes-none, goes-none-slice, Walks, ends-at, walked, walk-meets}
 use denote.Exit.{yes}
-use Rattle.tiff.specs.declared.io.ByteOrder.{ByteOrder}
-use Rattle.tiff.proofs.io.ByteOrder as O
-use Rattle.tiff.proofs.io.ByteOrder.Laws as O′
+use Rattle.numbers.specs.declared.io.ByteOrder.{ByteOrder}
+use Rattle.numbers.proofs.io.ByteOrder as O
+use Rattle.numbers.proofs.io.ByteOrder.Laws as O′
 use Rattle.note.specs.declared.Note.{Note}
 use Rattle.note.proofs.Apart.{lent, noteVal, blockVal, orderVal, note-typed, Parts, twice, whole}
 use Rattle.note.proofs.Note.new.Key.{name as #new}

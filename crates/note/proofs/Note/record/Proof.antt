@@ -38,7 +38,7 @@ use denote.Exit.{yes}
 use denote.Triple.Clauses.{ensured, lasts}
 use Rattle.reading.specs.Record.{recordMeans, afInfo2Of}
 use Rattle.reading.specs.declared.nikon.AfInfo2.{AfInfo2}
-use Rattle.tiff.proofs.io.ByteOrder as O
+use Rattle.numbers.proofs.io.ByteOrder as O
 use Rattle.reading.proofs.nikon.AfInfo2 as S
 use Rattle.reading.proofs.nikon.AfInfo2.Laws as S′
 use Rattle.reading.proofs.nikon.af_info2 as callee

@@ -20,7 +20,7 @@ use denote.Slice.{ShrSlice, shr-slice-lawful}
 use denote.Triple.Spec.{tripleOf}
 use denote.Triple.Table.{entered, cited}
 use Rattle.tiff.specs.Block.{findOf, valueOf}
-use Rattle.tiff.specs.declared.io.ByteOrder.{ByteOrder}
+use Rattle.numbers.specs.declared.io.ByteOrder.{ByteOrder}
 use Rattle.note.proofs.value_in as callee
 use Rattle.note.proofs.value_in.Symbol as callee-def
 use Rattle.note.proofs.value_in.Met as callee-thm

@@ -5,7 +5,7 @@ use Prim.Native.Nat.{ℕ}
 use denote.Ref.{now}
 use Rattle.tiff.specs.Outcome.{Outcome}
 use Rattle.tiff.specs.Block.{blockOf, blockMeans}
-use Rattle.tiff.specs.declared.io.ByteOrder.{ByteOrder}
+use Rattle.numbers.specs.declared.io.ByteOrder.{ByteOrder}
 use Rattle.reading.specs.declared.geometry.OptionalSize.{OptionalSize}
 use Rattle.tiff.specs.declared.ifd.Block.{Block}
 use Rattle.tiff.specs.declared.ifd.Block.the-variants.{Unreadable, Readable}

@@ -7,7 +7,7 @@ use denote.Ref.{now}
 use Rattle.tiff.specs.Outcome.{Outcome, refused}
 use Rattle.reading.specs.Values.{manualFocusOf, cropHiSpeedOf, cropAreaOf}
 use Rattle.reading.specs.Record.{afInfo2Of, recordMeans}
-use Rattle.tiff.specs.declared.io.ByteOrder.{ByteOrder}
+use Rattle.numbers.specs.declared.io.ByteOrder.{ByteOrder}
 use Rattle.reading.specs.declared.geometry.OptionalSize.{OptionalSize}
 use Rattle.reading.specs.declared.nikon.Crop.{Crop}
 use Rattle.reading.specs.declared.nikon.CropArea.{CropArea}

@@ -1,5 +1,5 @@
 -- `nikon::af_info2`: the type, then the record. Assumes nothing.
-use mathlib.Core.Path.{_≡_, _∙_}
+use mathlib.Core.Path.{_≡_}
 use mathlib.Core.List.{List}
 use Prim.Native.Nat.{ℕ}
 use borrow.Author.Tests.{eq-eqb, ne-eqb}
@@ -7,7 +7,7 @@ use denote.Ref.{now}
 use Rattle.tiff.specs.Outcome.{Outcome, refused}
 use Rattle.tiff.specs.Block.{findOf, typeOf, valueOf}
 use Rattle.reading.specs.Record.{recordOf, afInfo2Of}
-use Rattle.tiff.specs.declared.io.ByteOrder.{ByteOrder}
+use Rattle.numbers.specs.declared.io.ByteOrder.{ByteOrder}
 use Rattle.tiff.specs.declared.ifd.Found.{Found}
 use Rattle.reading.specs.declared.nikon.FocusRecord.{FocusRecord}
 use borrow.Author.Needs.{needs}

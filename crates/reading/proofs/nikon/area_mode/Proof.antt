@@ -4,7 +4,6 @@ use lib.Dec.{eqb}
 use borrow.Author.Tests.{ne-eqb}
 use Rattle.reading.specs.Record.{areaModeOf}
 use borrow.Author.Needs.{needs}
-use borrow.Author.Needs.{needs}
 use Rattle.reading.proofs.nikon.area_mode.Statement.{statement}
 use Rattle.reading.proofs.nikon.area_mode.Tie as tie
 

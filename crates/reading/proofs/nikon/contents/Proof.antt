@@ -1,14 +1,14 @@
 -- `nikon::contents`: what is collected holds each kept tag once, and then zeros, whatever order it is in. Assumes nothing.
-use mathlib.Core.Path.{_≡_, refl, _∙_, sym, ap}
-use mathlib.Core.List.{List, [], _∷_, _++_}
+use mathlib.Core.Path.{_≡_, refl, ap}
+use mathlib.Core.List.{List, [], _++_}
 use Prim.Native.Nat.{ℕ, _-_}
-use lib.ListN.{length, take, drop, replicate}
+use lib.ListN.{length, replicate}
 use lib.Seq.{take-append-seam, drop-append-seam}
 use denote.Ref.{now}
 use Rattle.tiff.specs.Outcome.{Outcome, refused, accepted, numberOf}
 use Rattle.tiff.specs.Block.{blockOf}
 use Rattle.reading.specs.Contents.{contentsNumber, Holds, ContentsOf, contentsIn, keptTags, listed, times}
-use Rattle.tiff.specs.declared.io.ByteOrder.{ByteOrder}
+use Rattle.numbers.specs.declared.io.ByteOrder.{ByteOrder}
 use Rattle.reading.specs.declared.nikon.TagList.{TagList}
 use borrow.Author.Needs.{needs}
 use Rattle.reading.proofs.nikon.contents.Statement.{statement}

@@ -1,13 +1,13 @@
 -- `nikon::crop_area`: whether there is an entry, its type and count, then the rectangle in the raw size. Assumes nothing.
-use mathlib.Core.Path.{_≡_, _∙_, sym}
+use mathlib.Core.Path.{_≡_, _∙_}
 use mathlib.Core.Bool.{Bool, true, false, not}
 use mathlib.Core.List.{List}
 use Prim.Native.Nat.{ℕ}
 use borrow.Author.Tests.{not-true, not-false}
 use denote.Ref.{now}
 use Rattle.tiff.specs.Block.{findOf, isKept, typeOf, countOf, valueOf}
-use Rattle.reading.specs.Values.{cropAreaOf, areaIn, isRectangle, windowIn, insideRaw, numberAt}
-use Rattle.tiff.specs.declared.io.ByteOrder.{ByteOrder}
+use Rattle.reading.specs.Values.{cropAreaOf, isRectangle, windowIn, insideRaw, numberAt}
+use Rattle.numbers.specs.declared.io.ByteOrder.{ByteOrder}
 use Rattle.reading.specs.declared.geometry.Size.{Size}
 use Rattle.reading.specs.declared.geometry.OptionalSize.{OptionalSize}
 use Rattle.reading.specs.declared.geometry.OptionalSize.the-variants.{Missing, Given}

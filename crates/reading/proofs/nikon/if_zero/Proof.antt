@@ -1,6 +1,5 @@
 -- `nikon::if_zero`: by the detection method. Assumes nothing.
 use borrow.Author.Tests.{eq-eqb, ne-eqb}
-use borrow.Author.Needs.{needs}
 use Rattle.reading.proofs.nikon.if_zero.Statement.{statement}
 use Rattle.reading.proofs.nikon.if_zero.Tie as tie
 

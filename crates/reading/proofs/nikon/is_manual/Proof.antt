@@ -1,12 +1,12 @@
 -- `nikon::is_manual`: the definition, step by step. Assumes nothing.
-use mathlib.Core.Path.{_≡_, _∙_}
+use mathlib.Core.Path.{_≡_}
 use mathlib.Core.Bool.{Bool, false}
 use mathlib.Core.List.{List}
 use Prim.Native.Nat.{ℕ, _≤_, _<_}
 use borrow.Author.Tests.{le-leb, lt-leb}
 use lib.ListN.{length}
 use denote.Ref.{now}
-use Rattle.tiff.specs.Bytes.{same}
+use Rattle.numbers.specs.Bytes.{same}
 use Rattle.reading.specs.Values.{isManual, upToZero, trimStart, trimEnd, manual}
 use borrow.Author.Needs.{needs}
 use Rattle.reading.proofs.nikon.is_manual.Statement.{statement}

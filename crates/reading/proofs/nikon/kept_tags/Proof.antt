@@ -1,5 +1,5 @@
 -- `nikon::kept_tags`: the loop collects the tags at the front of the places; what is left of the four still decides. Assumes nothing.
-use mathlib.Core.Path.{_≡_, refl, _∙_, sym, ap}
+use mathlib.Core.Path.{_≡_, refl}
 use mathlib.Core.Bool.{Bool, true, false}
 use mathlib.Core.List.{List}
 use mathlib.Core.Logic.{⊎-elim}
@@ -12,7 +12,7 @@ use denote.Ref.{now}
 use Rattle.tiff.specs.Block.{findOf, isKept}
 use Rattle.reading.specs.Contents.{fourTags, keptAmong, keptTags, listed}
 use Rattle.tiff.proofs.Collect.{Held, stored, finished}
-use Rattle.tiff.specs.declared.io.ByteOrder.{ByteOrder}
+use Rattle.numbers.specs.declared.io.ByteOrder.{ByteOrder}
 use Rattle.reading.specs.declared.nikon.TagList.{TagList}
 use Rattle.reading.specs.declared.nikon.ContentsAnswer.the-variants.{Listed}
 use borrow.Author.Needs.{needs}

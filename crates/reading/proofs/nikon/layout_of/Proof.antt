@@ -1,5 +1,5 @@
 -- `nikon::layout_of`: the loop's invariant is that the versions that are left decide. Assumes nothing.
-use mathlib.Core.Path.{_≡_, refl, _∙_, sym, ap}
+use mathlib.Core.Path.{_≡_, refl, _∙_, sym}
 use mathlib.Core.Bool.{Bool, true, false}
 use mathlib.Core.List.{List}
 use Prim.Native.Nat.{ℕ, _+_, _-_, _≤_, _<_}
@@ -8,7 +8,7 @@ use native.Mathlib.Omega.{arith}
 use lib.ListN.{getD, drop, take}
 use lib.Seq.{drop-cons}
 use denote.Ref.{now}
-use Rattle.tiff.specs.Bytes.{same}
+use Rattle.numbers.specs.Bytes.{same}
 use Rattle.reading.specs.Record.{layouts, noLayout, versions, noVersion, layoutAmong, layoutOf}
 use Rattle.reading.specs.declared.nikon.Version.{Version}
 use Rattle.reading.specs.declared.nikon.Layout.{Layout}

@@ -7,7 +7,7 @@ use borrow.Author.Tests.{eq-eqb, ne-eqb}
 use denote.Ref.{now}
 use Rattle.tiff.specs.Block.{findOf, typeOf, valueOf}
 use Rattle.reading.specs.Values.{manualFocusOf, isManual}
-use Rattle.tiff.specs.declared.io.ByteOrder.{ByteOrder}
+use Rattle.numbers.specs.declared.io.ByteOrder.{ByteOrder}
 use Rattle.tiff.specs.declared.ifd.Found.{Found}
 use borrow.Author.Needs.{needs}
 use Rattle.reading.proofs.nikon.manual_focus.Statement.{statement}

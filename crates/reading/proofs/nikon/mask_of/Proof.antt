@@ -6,9 +6,9 @@ use native.Mathlib.Omega.{arith}
 use lib.ListN.{getD, drop}
 use lib.Seq.{getD-drop}
 use denote.Ref.{now}
-use Rattle.tiff.specs.Numbers.{u16Of, u32Of}
+use Rattle.numbers.specs.Numbers.{u16Of, u32Of}
 use Rattle.reading.specs.Record.{maskOf}
-use Rattle.tiff.specs.declared.io.ByteOrder.the-variants.{Little}
+use Rattle.numbers.specs.declared.io.ByteOrder.the-variants.{Little}
 use borrow.Author.Needs.{needs}
 use Rattle.reading.proofs.nikon.mask_of.Statement.{statement}
 use Rattle.reading.proofs.nikon.mask_of.Tie as tie

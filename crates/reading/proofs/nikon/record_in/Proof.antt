@@ -5,7 +5,7 @@ use Prim.Native.Nat.{ℕ}
 use lib.ListN.{getD}
 use denote.Ref.{now}
 use Rattle.reading.specs.Record.{recordIn, sizeAt, inFocusOf, areaModeOf, namedOf}
-use Rattle.tiff.specs.declared.io.ByteOrder.{ByteOrder}
+use Rattle.numbers.specs.declared.io.ByteOrder.{ByteOrder}
 use Rattle.reading.specs.declared.geometry.Size.{Size}
 use Rattle.reading.specs.declared.focus.InFocus.{InFocus}
 use Rattle.reading.specs.declared.focus.FocusAreaMode.{FocusAreaMode}

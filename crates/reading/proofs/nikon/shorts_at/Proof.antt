@@ -5,7 +5,7 @@ use native.Mathlib.Omega.{arith}
 use lib.ListN.{length, drop, length-drop, drop-of-length-le}
 use lib.Seq.{take-all}
 use denote.Ref.{now}
-use Rattle.tiff.specs.Numbers.{shortsOf}
+use Rattle.numbers.specs.Numbers.{shortsOf}
 use borrow.Author.Needs.{needs}
 use Rattle.reading.proofs.nikon.shorts_at.Statement.{statement}
 use Rattle.reading.proofs.nikon.shorts_at.Tie as tie

@@ -1,7 +1,7 @@
 -- `nikon::size_at`: the pair, as a size. Assumes nothing.
 use mathlib.Core.Path.{_≡_}
 use Rattle.reading.specs.Record.{sizeAt}
-use Rattle.tiff.specs.declared.io.Pair.{Pair}
+use Rattle.numbers.specs.declared.io.Pair.{Pair}
 use Rattle.reading.specs.declared.geometry.Size.{Size}
 use borrow.Author.Needs.{needs}
 use Rattle.reading.proofs.nikon.size_at.Statement.{statement}

@@ -8,7 +8,7 @@ use lib.ListN.{length}
 use denote.Ref.{now}
 use Rattle.tiff.proofs.Entries.{product-small}
 use Rattle.tiff.specs.Block.{entryOf, sizeOf, typeAt, countAt, offsetAt}
-use Rattle.tiff.specs.declared.io.ByteOrder.{ByteOrder}
+use Rattle.numbers.specs.declared.io.ByteOrder.{ByteOrder}
 use Rattle.tiff.specs.declared.ifd.Found.the-variants.{Present, Damaged}
 use borrow.Author.Needs.{needs}
 use Rattle.tiff.proofs.ifd.entry_at.Statement.{statement}

@@ -7,9 +7,9 @@ use borrow.Author.Tests.{eq-eqb, ne-eqb}
 use lib.ListN.{drop}
 use lib.Dec.{ltb}
 use denote.Ref.{now}
-use Rattle.tiff.specs.Numbers.{u16Of}
+use Rattle.numbers.specs.Numbers.{u16Of}
 use Rattle.tiff.specs.Block.{hasTag, sizeOf}
-use Rattle.tiff.specs.declared.io.ByteOrder.{ByteOrder}
+use Rattle.numbers.specs.declared.io.ByteOrder.{ByteOrder}
 use borrow.Author.Needs.{needs}
 use Rattle.tiff.proofs.ifd.has_tag.Statement.{statement}
 use Rattle.tiff.proofs.ifd.has_tag.Tie as tie

@@ -6,11 +6,10 @@ use Prim.Native.Nat.{ℕ, _≤_, _<_}
 use borrow.Author.Tests.{le-leb, lt-leb}
 use lib.ListN.{length, take}
 use denote.Ref.{now}
-use Rattle.tiff.specs.Outcome.{Outcome, refused}
-use Rattle.tiff.specs.Bytes.{same}
+use Rattle.tiff.specs.Outcome.{refused}
+use Rattle.numbers.specs.Bytes.{same}
 use Rattle.tiff.specs.Block.{blockOf, byMark, inOrder, littleMark, bigMark}
-use Rattle.tiff.specs.declared.io.ByteOrder.{ByteOrder}
-use Rattle.tiff.specs.declared.io.ByteOrder.the-variants.{Little, Big}
+use Rattle.numbers.specs.declared.io.ByteOrder.the-variants.{Little, Big}
 use borrow.Author.Needs.{needs}
 use Rattle.tiff.proofs.ifd.parse_block.Statement.{statement}
 use Rattle.tiff.proofs.ifd.parse_block.Tie as tie

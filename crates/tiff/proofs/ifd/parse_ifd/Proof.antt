@@ -5,9 +5,9 @@ use Prim.Native.Nat.{ℕ, _+_, _*_, _≤_, _<_}
 use borrow.Author.Tests.{le-leb, lt-leb}
 use lib.ListN.{length, drop}
 use denote.Ref.{now}
-use Rattle.tiff.specs.Numbers.{u16Of, u32Of}
+use Rattle.numbers.specs.Numbers.{u16Of, u32Of}
 use Rattle.tiff.specs.Block.{directoryOf, offsetOf, entryCount}
-use Rattle.tiff.specs.declared.io.ByteOrder.{ByteOrder}
+use Rattle.numbers.specs.declared.io.ByteOrder.{ByteOrder}
 use Rattle.tiff.specs.declared.ifd.Ifd.the-variants.{Inside, Outside}
 use borrow.Author.Needs.{needs}
 use Rattle.tiff.proofs.ifd.parse_ifd.Statement.{statement}

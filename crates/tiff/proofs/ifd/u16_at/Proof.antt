@@ -6,8 +6,8 @@ use native.Mathlib.Nat.{add-zero}
 use lib.ListN.{getD, drop}
 use lib.Seq.{getD-drop}
 use denote.Ref.{now}
-use Rattle.tiff.specs.Numbers.{joined, u16Of}
-use Rattle.tiff.specs.declared.io.ByteOrder.{ByteOrder}
+use Rattle.numbers.specs.Numbers.{joined, u16Of}
+use Rattle.numbers.specs.declared.io.ByteOrder.{ByteOrder}
 use borrow.Author.Needs.{needs}
 use Rattle.tiff.proofs.ifd.u16_at.Statement.{statement}
 use Rattle.tiff.proofs.ifd.u16_at.Tie as tie

@@ -1,5 +1,4 @@
 -- `ifd::value_of`: by cases on what was found; a part is a head of a tail. Assumes nothing.
-use mathlib.Core.Path.{_∙_}
 use borrow.Author.Needs.{needs}
 use Rattle.tiff.proofs.ifd.value_of.Statement.{statement}
 use Rattle.tiff.proofs.ifd.value_of.Tie as tie

@@ -1,8 +1,8 @@
 -- `io::u32_of`: the definition, half by half. Assumes nothing.
-use Rattle.tiff.specs.Numbers.{u32Of}
+use Rattle.numbers.specs.Numbers.{u32Of}
 use borrow.Author.Needs.{needs}
-use Rattle.tiff.proofs.io.u32_of.Statement.{statement}
-use Rattle.tiff.proofs.io.u32_of.Tie as tie
+use Rattle.numbers.proofs.io.u32_of.Statement.{statement}
+use Rattle.numbers.proofs.io.u32_of.Tie as tie
 
 u16-of-requires : tie.Need-u16-of-requires
 u16-of-requires c κs = search needs

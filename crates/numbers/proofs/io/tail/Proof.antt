@@ -6,8 +6,8 @@ use lib.ListN.{length, drop, length-drop, drop-of-length-le}
 use lib.Seq.{take-all}
 use denote.Ref.{now}
 use borrow.Author.Needs.{needs}
-use Rattle.tiff.proofs.io.tail.Statement.{statement}
-use Rattle.tiff.proofs.io.tail.Tie as tie
+use Rattle.numbers.proofs.io.tail.Statement.{statement}
+use Rattle.numbers.proofs.io.tail.Tie as tie
 
 slice-aggregate-result : tie.Need-slice-aggregate-result
 slice-aggregate-result c = search needs

@@ -1,8 +1,8 @@
 -- `io::shorts`: the definition, number by number. Assumes nothing.
-use Rattle.tiff.specs.Numbers.{shortsOf}
+use Rattle.numbers.specs.Numbers.{shortsOf}
 use borrow.Author.Needs.{needs}
-use Rattle.tiff.proofs.io.shorts.Statement.{statement}
-use Rattle.tiff.proofs.io.shorts.Tie as tie
+use Rattle.numbers.proofs.io.shorts.Statement.{statement}
+use Rattle.numbers.proofs.io.shorts.Tie as tie
 
 u16-of-requires : tie.Need-u16-of-requires
 u16-of-requires c κs = search needs

@@ -1,7 +1,7 @@
--- `io::joined_bytes`: by cases on the order. Assumes nothing.
+-- `io::joined_shorts`: by cases on the order. Assumes nothing.
 use borrow.Author.Needs.{needs}
-use Rattle.tiff.proofs.io.joined_bytes.Statement.{statement}
-use Rattle.tiff.proofs.io.joined_bytes.Tie as tie
+use Rattle.numbers.proofs.io.joined_shorts.Statement.{statement}
+use Rattle.numbers.proofs.io.joined_shorts.Tie as tie
 
 enum-told : tie.Need-enum-told
 enum-told c = search needs
@@ -27,8 +27,8 @@ returns c = rw (c .enum-told .given .1)
 returns-2 : tie.Need-returns-2
 returns-2 c = rw (c .enum-told2 .given .1)
 
-pub joined-bytes-spec : {M : Type 1} → statement M
-joined-bytes-spec =
+pub joined-shorts-spec : {M : Type 1} → statement M
+joined-shorts-spec =
     tie.close
     (tie.spec
     enum-told

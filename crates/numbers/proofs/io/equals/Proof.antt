@@ -4,10 +4,10 @@ use Prim.Native.Nat.{_≤_, _-_}
 use native.Mathlib.Omega.{arith}
 use lib.ListN.{length, drop}
 use denote.Ref.{now}
-use Rattle.tiff.specs.Bytes.{same}
-use Rattle.tiff.proofs.Same.{unequal-lengths, differ, agree, both-end}
-use Rattle.tiff.proofs.io.equals.Statement.{statement}
-use Rattle.tiff.proofs.io.equals.Tie as tie
+use Rattle.numbers.specs.Bytes.{same}
+use Rattle.numbers.proofs.Same.{unequal-lengths, differ, agree, both-end}
+use Rattle.numbers.proofs.io.equals.Statement.{statement}
+use Rattle.numbers.proofs.io.equals.Tie as tie
 
 abbrev Inv-loop : tie.InvT-loop
 Inv-loop a b i₀ i = (i ≤ length a) × (length a ≡ length b) × (same a b ≡ same (drop i a) (drop i b))

@@ -4,8 +4,8 @@ use native.Mathlib.Omega.{arith}
 use lib.Seq.{take-all, length-take-le}
 use denote.Ref.{now}
 use borrow.Author.Needs.{needs}
-use Rattle.tiff.proofs.io.head.Statement.{statement}
-use Rattle.tiff.proofs.io.head.Tie as tie
+use Rattle.numbers.proofs.io.head.Statement.{statement}
+use Rattle.numbers.proofs.io.head.Tie as tie
 
 returns : tie.Need-returns
 returns c = sym (take-all (c .before .args .len) (now (c .before .args .s)) (omega arith))

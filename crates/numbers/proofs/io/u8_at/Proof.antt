@@ -3,8 +3,8 @@ use mathlib.Core.Path.{sym}
 use lib.ListN.{List·getD-eq-default}
 use denote.Ref.{now}
 use borrow.Author.Needs.{needs}
-use Rattle.tiff.proofs.io.u8_at.Statement.{statement}
-use Rattle.tiff.proofs.io.u8_at.Tie as tie
+use Rattle.numbers.proofs.io.u8_at.Statement.{statement}
+use Rattle.numbers.proofs.io.u8_at.Tie as tie
 
 shared-slice-read-result : tie.Need-shared-slice-read-result
 shared-slice-read-result c = search needs

@@ -1,8 +1,8 @@
 // Numbers in a byte order, and parts of a slice. Past a slice's end every byte reads as 0.
 ghost use mathlib.Core.Path.{_≡_};
 ghost use lib.ListN.{getD, take, drop};
-ghost use Rattle.tiff.specs.Numbers.{joined, u16Of, u32Of, shortsOf};
-ghost use Rattle.tiff.specs.Bytes.{same};
+ghost use Rattle.numbers.specs.Numbers.{joined, u16Of, u32Of, shortsOf};
+ghost use Rattle.numbers.specs.Bytes.{same};
 
 // The order of a number's bytes.
 pub enum ByteOrder {
@@ -61,7 +61,7 @@ pub fn equals(a: &[u8], b: &[u8]) -> bool
 }
 
 // Two bytes as a 16-bit number.
-pub(crate) fn joined_bytes(order: ByteOrder, a: u8, b: u8) -> u16
+pub fn joined_bytes(order: ByteOrder, a: u8, b: u8) -> u16
     ensures { λ r. ⌜ r ≡ joined order 256 a b ⌝ }
 {
     let first = a as u16;

@@ -1,8 +1,8 @@
 -- `io::u16_of`: the definition, byte by byte. Assumes nothing.
-use Rattle.tiff.specs.Numbers.{u16Of}
+use Rattle.numbers.specs.Numbers.{u16Of}
 use borrow.Author.Needs.{needs}
-use Rattle.tiff.proofs.io.u16_of.Statement.{statement}
-use Rattle.tiff.proofs.io.u16_of.Tie as tie
+use Rattle.numbers.proofs.io.u16_of.Statement.{statement}
+use Rattle.numbers.proofs.io.u16_of.Tie as tie
 
 u8-at-requires : tie.Need-u8-at-requires
 u8-at-requires c κs = search needs

@@ -2,9 +2,9 @@
 use Prim.Native.Nat.{ℕ, _+_, _*_}
 use mathlib.Core.List.{List}
 use lib.ListN.{getD, drop}
-use Rattle.tiff.specs.declared.io.ByteOrder.{ByteOrder}
-use Rattle.tiff.specs.declared.io.ByteOrder.the-variants.{Little, Big}
-use Rattle.tiff.specs.declared.io.Pair.{Pair}
+use Rattle.numbers.specs.declared.io.ByteOrder.{ByteOrder}
+use Rattle.numbers.specs.declared.io.ByteOrder.the-variants.{Little, Big}
+use Rattle.numbers.specs.declared.io.Pair.{Pair}
 
 -- two digits to the base k, in the order in which they are written
 abbrev pub joined : ByteOrder → ℕ → ℕ → ℕ → ℕ
