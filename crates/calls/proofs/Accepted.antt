@@ -13,7 +13,7 @@ use native.Mathlib.Nat.{add-zero}
 use borrow.Author.Tests.{leb-true, eqb-true}
 use Rattle.numbers.specs.Numbers.{u16Of, u32Of}
 use Rattle.numbers.specs.declared.io.ByteOrder.the-variants.{Big}
-use Rattle.reading.specs.declared.geometry.Size.{Size}
+use Rattle.geometry.specs.declared.Size.{Size}
 use Rattle.text.proofs.Lists.{by-cond, and-both}
 use Rattle.hex.specs.Hex.{sum, checks}
 use Rattle.calls.specs.declared.Call.{Call}

@@ -6,9 +6,9 @@ use mathlib.Core.List.{List, [], _∷_, _++_}
 use mathlib.Core.Logic.{_⊎_}
 use mathlib.Core.Path.{_≡_}
 use lib.ListN.{length, getD}
-use Rattle.reading.specs.declared.geometry.Size.{Size}
-use Rattle.reading.specs.declared.geometry.OptionalSize.{OptionalSize}
-use Rattle.reading.specs.declared.geometry.OptionalSize.the-variants.{Missing, Given}
+use Rattle.geometry.specs.declared.Size.{Size}
+use Rattle.geometry.specs.declared.OptionalSize.{OptionalSize}
+use Rattle.geometry.specs.declared.OptionalSize.the-variants.{Missing, Given}
 use Rattle.hex.specs.Hex.{sum}
 use Rattle.calls.specs.declared.Call.{Call}
 use Rattle.calls.specs.declared.Call.the-variants.{Malformed, Load, Cut, Turn, Mirror, Back, ListPoints, Fit, Contents}

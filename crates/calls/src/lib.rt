@@ -1,16 +1,15 @@
 // The call that the bytes of a line spell, and the parts of the bytes that it is given.
+use geometry::OptionalSize;
+use geometry::Size;
 use hex::is_checked;
 use numbers::io::ByteOrder;
 use numbers::io::head;
 use numbers::io::tail;
 use numbers::io::u8_at;
 use numbers::io::u32_of;
-use reading::geometry::OptionalSize;
-use reading::geometry::Size;
 ghost use mathlib.Core.Path.{_≡_};
 ghost use Prim.Native.Nat.{_-_, _<_};
-ghost use Rattle.calls.specs.Format.{numberAt, sizeAt, sidesAgree, optional, modelLength, isLoad, loadOf};
-ghost use Rattle.calls.specs.Format.{ofLength, cutOf, fitOf, contentsOf, byCode, callOf, modelPart, blockPart, contentsPart};
+ghost use Rattle.calls.specs.Format.{numberAt, sizeAt, sidesAgree, optional, modelLength, isLoad, loadOf, ofLength, cutOf, fitOf, contentsOf, byCode, callOf, modelPart, blockPart, contentsPart};
 
 // How a line's bytes read; what a load or contents is given besides stands in the bytes, see model_of, block_of, contents_block.
 pub enum Call {

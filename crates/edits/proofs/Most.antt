@@ -4,7 +4,7 @@ use mathlib.Core.Path.{_≡_, ap}
 use mathlib.Core.List.{List}
 use native.Mathlib.Nat.{min-eq-left, min-eq-right}
 use native.Mathlib.Omega.{arith}
-use Rattle.reading.specs.declared.geometry.Size.{Size}
+use Rattle.geometry.specs.declared.Size.{Size}
 use Rattle.fitting.specs.declared.focus.FocusPoint.{FocusPoint}
 use Rattle.edits.specs.Place.{placed}
 

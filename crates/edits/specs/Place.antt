@@ -4,8 +4,8 @@ use mathlib.Core.Bool.{Bool, true, _&&_, not, cond}
 use mathlib.Core.List.{List, [], _∷_}
 use lib.Dec.{leb, eqb}
 use lib.ListN.{getD}
-use Rattle.reading.specs.declared.geometry.Size.{Size}
-use Rattle.reading.specs.declared.geometry.Point.{Point}
+use Rattle.geometry.specs.declared.Size.{Size}
+use Rattle.geometry.specs.declared.Point.{Point}
 use Rattle.fitting.specs.declared.focus.FocusPoint.{FocusPoint}
 use Rattle.fitting.specs.Fit.{pointFits, by}
 use Rattle.fitting.specs.Laws.{swapped}

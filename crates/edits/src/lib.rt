@@ -1,7 +1,7 @@
 // An edit, and one point under edits.
 use fitting::focus::FocusPoint;
-use reading::geometry::Point;
-use reading::geometry::Size;
+use geometry::Point;
+use geometry::Size;
 ghost use mathlib.Core.Path.{_≡_};
 ghost use mathlib.Core.Bool.{_&&_};
 ghost use Prim.Native.Nat.{_+_, _-_, _<_, _≤_, min};

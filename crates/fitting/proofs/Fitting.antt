@@ -6,8 +6,8 @@ use mathlib.Core.Bool.{true, false, _&&_, not, and-comm, or-comm}
 use native.Mathlib.Omega.{arith}
 use lib.Dec.{leb, eqb}
 use borrow.Author.Tests.{le-leb, leb-true, ne-eqb, eqb-false, not-true}
-use Rattle.reading.specs.declared.geometry.Size.{Size}
-use Rattle.reading.specs.declared.geometry.Point.{Point}
+use Rattle.geometry.specs.declared.Size.{Size}
+use Rattle.geometry.specs.declared.Point.{Point}
 use Rattle.fitting.specs.Fit.{halfUp, axisFits, hasZeroSide, centerLiesOn, areaFits, noArea, areaIfAnyFits, liesOn, pointFits}
 use Rattle.fitting.proofs.Booleans.{both, and-of, neither, or-map}
 use Rattle.fitting.specs.Laws.{OnFrame, AxisMirrored, FitsOnFrame, FitsMirrored, swapped, FitsSwapped}

@@ -4,8 +4,8 @@ use Prim.Native.Nat.{ℕ, max}
 use mathlib.Core.Path.{_≡_, refl}
 use mathlib.Core.Bool.{Bool, true, false, cond}
 use native.Mathlib.Omega.{arith}
-use Rattle.reading.specs.declared.geometry.Size.{Size}
-use Rattle.reading.specs.declared.geometry.Point.{Point}
+use Rattle.geometry.specs.declared.Size.{Size}
+use Rattle.geometry.specs.declared.Point.{Point}
 use Rattle.fitting.specs.declared.focus.FocusPoint.{FocusPoint}
 use Rattle.fitting.specs.Fit.{axisFits, hasZeroSide, areaFits, noArea, areaIfAnyFits, pointFits}
 use Rattle.fitting.specs.Scale.{scaleOf, scaledSide, scaledCenter, scaledArea, keptArea, scaledSize, scaledPoint}

@@ -3,9 +3,9 @@ ghost use mathlib.Core.Path.{_≡_};
 ghost use Prim.Native.Nat.{min, max};
 ghost use Rattle.fitting.specs.Fit.{halfUp, axisFits, sameSize, hasZeroSide, centerLiesOn, areaFits, noArea, liesOn, pointFits};
 ghost use Rattle.fitting.specs.Scale.{scaleOf, trimOf, scaledSide, scaledCenter, scaledSize, scaledPoint};
-use reading::focus::InFocus;
-use reading::geometry::Point;
-use reading::geometry::Size;
+use afinfo::focus::InFocus;
+use geometry::Point;
+use geometry::Size;
 
 // A place where the camera focused. A recorded point has number 0, one without an area the size 0 by 0.
 pub struct FocusPoint {

@@ -11,7 +11,7 @@ use native.Mathlib.Nat.{zero-add}
 use native.Mathlib.Omega.{arith}
 use borrow.Author.Tests.{lt-ltb, le-ltb}
 use borrow.Rule.Slice.PartMut.{putMid, postOf}
-use Rattle.reading.specs.Focus.{modeNumber}
+use Rattle.afinfo.specs.Focus.{modeNumber}
 use Rattle.fitting.specs.declared.focus.FocusPoint.{FocusPoint}
 use Rattle.load.specs.Load.{originNumber}
 use Rattle.listing.specs.declared.Listing.{Listing}

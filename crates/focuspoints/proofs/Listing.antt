@@ -8,10 +8,10 @@ use lib.Seq.{length-take-le}
 use native.Mathlib.Omega.{arith}
 use borrow.Author.Tests.{eq-eqb, ne-eqb}
 use Rattle.tiff.specs.Outcome.{Outcome, refused, accepted}
-use Rattle.reading.specs.Focus.{modeNumber}
-use Rattle.reading.specs.declared.geometry.Size.{Size}
-use Rattle.reading.specs.declared.geometry.OptionalSize.{OptionalSize}
-use Rattle.reading.specs.declared.geometry.OptionalSize.the-variants.{Missing, Given}
+use Rattle.afinfo.specs.Focus.{modeNumber}
+use Rattle.geometry.specs.declared.Size.{Size}
+use Rattle.geometry.specs.declared.OptionalSize.{OptionalSize}
+use Rattle.geometry.specs.declared.OptionalSize.the-variants.{Missing, Given}
 use Rattle.fitting.specs.declared.focus.FocusPoint.{FocusPoint}
 use Rattle.load.specs.declared.focus.FocusPoints.{FocusPoints}
 use Rattle.load.specs.declared.focus.Refusal.{Refusal}

@@ -1,10 +1,10 @@
 // A library for C and Rust: one photograph's focus points, a whole script of call lines, and a note's contents. What is exported takes
 // numbers and slices (a pointer and a length each) and asks nothing of what they hold.
+use geometry::OptionalSize;
+use geometry::Size;
 use listing::Listing;
 use load::focus::FocusAnswer;
 use load::focus::FocusPoints;
-use reading::geometry::OptionalSize;
-use reading::geometry::Size;
 use reading::nikon::ContentsAnswer;
 use script::Answered;
 ghost use mathlib.Core.Path.{_≡_};
@@ -43,7 +43,7 @@ fn put_head(l: Listing, out: &mut [u32])
     out[1] = frame.height;
     out[2] = l.count as u32;
     out[3] = l.index as u32;
-    out[4] = reading::focus::mode_number(mode);
+    out[4] = afinfo::focus::mode_number(mode);
     out[5] = load::focus::origin_number(origin);
 }
 

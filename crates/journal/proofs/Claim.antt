@@ -15,12 +15,12 @@ use native.Mathlib.Numerals.{add-one, sub-one}
 use native.Mathlib.Omega.{arith}
 use borrow.Author.Tests.{lt-ltb, le-leb, lt-leb, ltb-true, ltb-false, eqb-false, ne-eqb}
 use Rattle.tiff.specs.Outcome.{Outcome, refused, accepted}
-use Rattle.reading.specs.declared.geometry.Size.{Size}
+use Rattle.geometry.specs.declared.Size.{Size}
 use Rattle.fitting.specs.declared.focus.FocusPoint.{FocusPoint}
 use Rattle.fitting.specs.Fit.{hasZeroSide}
 use Rattle.fitting.specs.Scale.{scaledPoint}
 use Rattle.placing.specs.Focus.{focusOf}
-use Rattle.load.specs.Load.{Focus, noPoint, refusalOf, refusalNumber}
+use Rattle.load.specs.Load.{Focus, noPoint, refusalOf, refusalNumber, loadNumber}
 use Rattle.load.specs.Sound.{Sound}
 use Rattle.placing.proofs.Sound.{focus-sound}
 use Rattle.edits.specs.declared.Edit.{Edit}
@@ -30,11 +30,9 @@ use Rattle.edits.specs.declared.EditAnswer.{EditAnswer}
 use Rattle.edits.specs.declared.EditAnswer.the-variants.{Accepted, Full, BadCut, DropsPrimary, NothingStands}
 use Rattle.listing.specs.declared.ListAnswer.the-variants as answers
 use Rattle.sheet.specs.declared.Sheet.{Sheet}
-use Rattle.edits.specs.Place.{wordsOf, moved, placed}
+use Rattle.edits.specs.Place.{wordsOf, moved, placed, cutPasses}
 use Rattle.edits.specs.Answer.{editNumber}
-use Rattle.load.specs.Load.{loadNumber}
 use Rattle.sheet.specs.Sheet.{edited, freshSheet, loadedSheet, loadSheet, usable, placedAt, presentFrame as frameOf, withEdits, addEdit, ifOpen, turnSheet, mirrorSheet, keepsPrimary, cutSheet, backSheet}
-use Rattle.edits.specs.Place.{cutPasses}
 use Rattle.listing.specs.Listing.{listNumber, headNumbers, flat}
 use Rattle.sheet.specs.Listing.{listed as listedOf, listCount, listIndex, isShort, headIn, listAnswer, listBuffer, scaledAll, fitAnswer, fitBuffer}
 use Rattle.listing.proofs.Buffer.{flat-length}

@@ -3,9 +3,9 @@ use mathlib.Core.Path.{refl, _∙_}
 use Rattle.numbers.specs.Bytes.{same}
 use Rattle.numbers.specs.Numbers.{u16Of, u32Of, shortsOf}
 use Rattle.tiff.specs.Block.{offsetOf, entryCount, directoryOf, inOrder, byMark, blockOf, sizeOf, entryOf, hasTag, firstOf, findOf}
-use Rattle.reading.specs.Values.{manualFocusOf, cropHiSpeedOf, cropAreaOf}
-use Rattle.reading.specs.Record.{layoutAmong, layoutOf, areaModeOf, maskOf, sizeAt, recordIn, recordOf, afInfo2Of}
-use Rattle.reading.specs.Focus.{inFocusNumber, modeNumber}
+use Rattle.reading.specs.Values.{manualFocusOf, cropHiSpeedOf, cropAreaOf, afInfo2Of}
+use Rattle.afinfo.specs.Record.{layoutAmong, layoutOf, areaModeOf, maskOf, sizeAt, recordIn, recordOf}
+use Rattle.afinfo.specs.Focus.{inFocusNumber, modeNumber}
 use Rattle.fitting.specs.Fit.{axisFits, hasZeroSide, centerLiesOn, areaFits, noArea, liesOn, pointFits}
 use Rattle.named.specs.Points.{hasTable}
 use Rattle.named.specs.Named.{pictureIs, uncropped, placedFrame, marked, fitsWindow, isNamed, isListed, listedFrom, hasNumber, indexOf, placedIn, namedOutcome}

@@ -6,7 +6,7 @@ use mathlib.Core.Bool.{true}
 use lib.ListN.{getD, length, length-map}
 use native.Mathlib.Omega.{arith}
 use borrow.Author.Tests.{le-ltb}
-use Rattle.reading.specs.declared.geometry.Size.{Size}
+use Rattle.geometry.specs.declared.Size.{Size}
 use Rattle.fitting.specs.declared.focus.FocusPoint.{FocusPoint}
 use Rattle.fitting.specs.Fit.{pointFits}
 use Rattle.fitting.specs.Scale.{scaledPoint}

@@ -8,17 +8,16 @@ use mathlib.Core.Path.{_≡_, refl}
 use lib.Dec.{ltb, eqb}
 use lib.ListN.{length}
 use Rattle.tiff.specs.Outcome.{Outcome, refused, accepted}
-use Rattle.reading.specs.declared.geometry.Size.{Size}
+use Rattle.geometry.specs.declared.Size.{Size}
 use Rattle.fitting.specs.Fit.{hasZeroSide}
 use Rattle.placing.specs.Focus.{focusOf}
-use Rattle.load.specs.Load.{Focus}
+use Rattle.load.specs.Load.{Focus, loadNumber}
 use Rattle.edits.specs.declared.Edit.the-variants.{Cut}
 use Rattle.edits.specs.declared.EditAnswer.the-variants.{Accepted, Empty, Full, BadCut, DropsPrimary, NothingStands}
 use Rattle.listing.specs.declared.ListAnswer.the-variants as answers
 use Rattle.sheet.specs.declared.Sheet.{Sheet}
 use Rattle.sheet.specs.declared.Edited.{Edited}
 use Rattle.edits.specs.Answer.{editNumber}
-use Rattle.load.specs.Load.{loadNumber}
 use Rattle.sheet.specs.Sheet.{edited, loadSheet, usable, presentFrame, withEdits, addEdit, ifOpen, turnSheet, mirrorSheet, keepsPrimary, cutSheet, backSheet}
 use Rattle.edits.specs.Place.{cutPasses}
 use Rattle.listing.specs.Listing.{listNumber, over, flat}

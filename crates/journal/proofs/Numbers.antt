@@ -10,12 +10,12 @@ use native.Mathlib.Omega.{arith}
 use Rattle.tiff.specs.Block.{blockOf, byMark, inOrder, byDirectory, directoryOf, littleMark, bigMark, findOf, typeOf, valueOf}
 use Rattle.numbers.specs.Bytes.{same}
 use Rattle.tiff.specs.Outcome.{Outcome, refused, accepted}
-use Rattle.reading.specs.Record.{afInfo2Of, recordOf, byLayout, layoutOf, recordIn}
-use Rattle.reading.specs.Values.{manualFocusOf, cropHiSpeedOf, cropAreaOf}
-use Rattle.reading.specs.declared.geometry.OptionalSize.{OptionalSize}
-use Rattle.reading.specs.declared.geometry.OptionalSize.the-variants.{Missing, Given}
-use Rattle.reading.specs.declared.geometry.Size.{Size}
-use Rattle.reading.specs.declared.focus.FocusAreaMode.{FocusAreaMode}
+use Rattle.reading.specs.Values.{afInfo2Of, manualFocusOf, cropHiSpeedOf, cropAreaOf}
+use Rattle.afinfo.specs.Record.{recordOf, byLayout, layoutOf, recordIn}
+use Rattle.geometry.specs.declared.OptionalSize.{OptionalSize}
+use Rattle.geometry.specs.declared.OptionalSize.the-variants.{Missing, Given}
+use Rattle.geometry.specs.declared.Size.{Size}
+use Rattle.afinfo.specs.declared.focus.FocusAreaMode.{FocusAreaMode}
 use Rattle.tiff.specs.declared.ifd.Ifd.{Ifd}
 use Rattle.tiff.specs.declared.ifd.Ifd.the-variants.{Outside, Inside}
 use Rattle.numbers.specs.declared.io.ByteOrder.{ByteOrder}
@@ -25,11 +25,11 @@ use Rattle.reading.specs.declared.nikon.Crop.the-variants.{Unrecorded, Recorded
 use Rattle.reading.specs.declared.nikon.CropArea.{CropArea}
 use Rattle.reading.specs.declared.nikon.CropArea.the-variants.{Absent, Unusable, Window}
 use Rattle.reading.specs.declared.nikon.CropHiSpeed.{CropHiSpeed}
-use Rattle.reading.specs.declared.nikon.FocusRecord.{FocusRecord}
-use Rattle.reading.specs.declared.nikon.KnownLayout.{KnownLayout}
-use Rattle.reading.specs.declared.nikon.KnownLayout.the-variants.{Unknown, Known}
-use Rattle.reading.specs.declared.nikon.NamedPoints.{NamedPoints}
-use Rattle.reading.specs.declared.nikon.NamedPoints.the-variants.{Unnamed, Named}
+use Rattle.afinfo.specs.declared.FocusRecord.{FocusRecord}
+use Rattle.afinfo.specs.declared.KnownLayout.{KnownLayout}
+use Rattle.afinfo.specs.declared.KnownLayout.the-variants.{Unknown, Known}
+use Rattle.afinfo.specs.declared.NamedPoints.{NamedPoints}
+use Rattle.afinfo.specs.declared.NamedPoints.the-variants.{Unnamed, Named}
 use Rattle.fitting.specs.declared.focus.FocusPoint.{FocusPoint}
 use Rattle.fitting.specs.Fit.{hasZeroSide, pointFits, sameSize}
 use Rattle.fitting.specs.Scale.{scaledPoint}

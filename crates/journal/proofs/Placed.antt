@@ -8,7 +8,7 @@ use mathlib.Core.Path.{_≡_, refl, sym, ap, ap₂, _∙_}
 use lib.ListN.{getD, length, take, length-append}
 use lib.Seq.{sets, take-suc}
 use native.Mathlib.Omega.{arith}
-use Rattle.reading.specs.declared.geometry.Size.{Size}
+use Rattle.geometry.specs.declared.Size.{Size}
 use Rattle.fitting.specs.declared.focus.FocusPoint.{FocusPoint}
 use Rattle.load.specs.Load.{noPoint}
 use Rattle.edits.specs.declared.Edit.{Edit}

@@ -11,8 +11,8 @@ use lib.ListN.{length, drop}
 use native.Mathlib.Omega.{arith}
 use borrow.Author.Tests.{lt-ltb, le-ltb, le-leb, lt-leb, eq-eqb, ne-eqb, ltb-true, ltb-false, leb-true, leb-false, eqb-true, eqb-false}
 use Rattle.tiff.specs.Outcome.{Outcome, refused, accepted}
-use Rattle.reading.specs.declared.geometry.Size.{Size}
-use Rattle.reading.specs.declared.geometry.OptionalSize.{OptionalSize}
+use Rattle.geometry.specs.declared.Size.{Size}
+use Rattle.geometry.specs.declared.OptionalSize.{OptionalSize}
 use Rattle.fitting.specs.declared.focus.FocusPoint.{FocusPoint}
 use Rattle.fitting.specs.Fit.{hasZeroSide}
 use Rattle.fitting.proofs.Booleans.{neither, or-first, or-second}

@@ -5,8 +5,8 @@ use mathlib.Core.List.{List, [], _∷_}
 use lib.Dec.{eqb}
 use lib.ListN.{length}
 use Rattle.tiff.specs.Outcome.{Outcome, refused, accepted}
-use Rattle.reading.specs.declared.geometry.Size.{Size}
-use Rattle.reading.specs.declared.geometry.OptionalSize.{OptionalSize}
+use Rattle.geometry.specs.declared.Size.{Size}
+use Rattle.geometry.specs.declared.OptionalSize.{OptionalSize}
 use Rattle.placing.specs.Focus.{focusOf}
 use Rattle.sheet.specs.declared.Sheet.{Sheet}
 use Rattle.sheet.specs.declared.Edited.{Edited}

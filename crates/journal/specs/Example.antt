@@ -4,7 +4,7 @@ use Prim.Native.Nat.{ℕ}
 use mathlib.Core.List.{List, [], _∷_}
 use mathlib.Core.Path.{_≡_}
 use lib.ListN.{replicate}
-use Rattle.reading.specs.declared.geometry.OptionalSize.the-variants.{Missing}
+use Rattle.geometry.specs.declared.OptionalSize.the-variants.{Missing}
 use Rattle.named.specs.Points.{d600}
 use Rattle.sheet.specs.Sheet.{freshSheet}
 use Rattle.journal.specs.Journal.{cut, turn, ok}

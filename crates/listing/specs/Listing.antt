@@ -4,7 +4,7 @@ use mathlib.Core.Bool.{Bool, cond, _&&_}
 use mathlib.Core.List.{List, [], _∷_, _++_}
 use lib.Dec.{leb}
 use lib.ListN.{length, take, drop}
-use Rattle.reading.specs.Focus.{inFocusNumber, modeNumber}
+use Rattle.afinfo.specs.Focus.{inFocusNumber, modeNumber}
 use Rattle.fitting.specs.declared.focus.FocusPoint.{FocusPoint}
 use Rattle.load.specs.Load.{originNumber}
 use Rattle.listing.specs.declared.Listing.{Listing}

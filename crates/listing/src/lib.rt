@@ -1,8 +1,8 @@
 // The listing of points: six numbers each in a lent buffer, and what is said beside them.
+use afinfo::focus::FocusAreaMode;
 use fitting::focus::FocusPoint;
+use geometry::Size;
 use load::focus::FocusOrigin;
-use reading::focus::FocusAreaMode;
-use reading::geometry::Size;
 ghost use mathlib.Core.Path.{_≡_};
 ghost use Prim.Native.Nat.{_+_, _≤_};
 ghost use lib.ListN.{length};
@@ -51,7 +51,7 @@ fn put_point(out: &mut [u32], at: usize, point: FocusPoint)
     out[at + 2] = center.y;
     out[at + 3] = size.width;
     out[at + 4] = size.height;
-    out[at + 5] = reading::focus::in_focus_number(in_focus);
+    out[at + 5] = afinfo::focus::in_focus_number(in_focus);
 }
 
 // Writes the first n points at the buffer's front, six numbers each. Where there are not so many, or no room for them, nothing is

@@ -6,10 +6,10 @@ use mathlib.Core.List.{List, [], _∷_, _++_}
 use lib.ListN.{length, replicate}
 use lib.Dec.{eqb}
 use Rattle.tiff.specs.Outcome.{Outcome, refused, accepted}
-use Rattle.reading.specs.declared.geometry.Size.{Size}
-use Rattle.reading.specs.declared.focus.InFocus.the-variants.{Unrecorded}
-use Rattle.reading.specs.declared.focus.FocusAreaMode.{FocusAreaMode}
-use Rattle.reading.specs.declared.focus.FocusAreaMode.the-variants as mode
+use Rattle.geometry.specs.declared.Size.{Size}
+use Rattle.afinfo.specs.declared.focus.InFocus.the-variants.{Unrecorded}
+use Rattle.afinfo.specs.declared.focus.FocusAreaMode.{FocusAreaMode}
+use Rattle.afinfo.specs.declared.focus.FocusAreaMode.the-variants as mode
 use Rattle.fitting.specs.declared.focus.FocusPoint.{FocusPoint}
 use Rattle.load.specs.declared.focus.FocusOrigin.{FocusOrigin}
 use Rattle.load.specs.declared.focus.FocusOrigin.the-variants.{Recorded, Table}

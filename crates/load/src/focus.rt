@@ -1,9 +1,9 @@
 // The points of one load, or why there are none.
+use afinfo::focus::FocusAreaMode;
+use afinfo::focus::InFocus;
 use fitting::focus::FocusPoint;
-use reading::focus::FocusAreaMode;
-use reading::focus::InFocus;
-use reading::geometry::Point;
-use reading::geometry::Size;
+use geometry::Point;
+use geometry::Size;
 ghost use mathlib.Core.Path.{_≡_};
 ghost use lib.ListN.{replicate};
 ghost use Rattle.load.specs.Load.{noPoint, originNumber, refusalNumber, loadNumber, refusedBy};

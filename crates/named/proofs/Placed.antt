@@ -10,8 +10,8 @@ use lib.ListN.{length, getD}
 use borrow.Author.Tests.{eq-eqb, ne-eqb}
 use Rattle.tiff.specs.Outcome.{Outcome, refused, accepted, numberOf}
 use Rattle.numbers.specs.Bytes.{same}
-use Rattle.reading.specs.declared.geometry.OptionalSize.{OptionalSize}
-use Rattle.reading.specs.declared.focus.FocusAreaMode.{FocusAreaMode}
+use Rattle.geometry.specs.declared.OptionalSize.{OptionalSize}
+use Rattle.afinfo.specs.declared.focus.FocusAreaMode.{FocusAreaMode}
 use Rattle.reading.specs.declared.nikon.Crop.{Crop}
 use Rattle.fitting.proofs.Booleans.{or-second}
 use Rattle.named.specs.declared.points.TablePoint.{TablePoint}

@@ -6,8 +6,8 @@ use mathlib.Core.Bool.{Bool, true, false, cond, _&&_}
 use native.Mathlib.Omega.{arith}
 use lib.Dec.{eqb}
 use Rattle.tiff.specs.Outcome.{Outcome, refused, accepted}
-use Rattle.reading.specs.declared.focus.FocusAreaMode.{FocusAreaMode}
-use Rattle.reading.specs.declared.nikon.NamedPoints.the-variants.{Unnamed, Named}
+use Rattle.afinfo.specs.declared.focus.FocusAreaMode.{FocusAreaMode}
+use Rattle.afinfo.specs.declared.NamedPoints.the-variants.{Unnamed, Named}
 use Rattle.load.specs.declared.focus.Window.{Window}
 use Rattle.named.specs.Points.{hasTable, points}
 use Rattle.named.specs.Named.{placedFrame, listed, hasNumber, windowFocus, placedIn, namedOutcome, NamedSound}

@@ -5,10 +5,10 @@ use mathlib.Core.List.{List, [], _∷_}
 use mathlib.Core.Path.{_≡_}
 use lib.Dec.{eqb}
 use Rattle.tiff.specs.Outcome.{refused, numberOf}
-use Rattle.reading.specs.declared.geometry.OptionalSize.{OptionalSize}
-use Rattle.reading.specs.declared.focus.FocusAreaMode.{FocusAreaMode}
+use Rattle.geometry.specs.declared.OptionalSize.{OptionalSize}
+use Rattle.afinfo.specs.declared.focus.FocusAreaMode.{FocusAreaMode}
 use Rattle.reading.specs.declared.nikon.Crop.{Crop}
-use Rattle.reading.specs.declared.nikon.NamedPoints.the-variants.{Named}
+use Rattle.afinfo.specs.declared.NamedPoints.the-variants.{Named}
 use Rattle.named.specs.declared.points.TablePoint.{TablePoint}
 use Rattle.named.specs.Points.{d600, points}
 use Rattle.named.specs.Named.{whole, dx, medium, placedFrame, fitsWindow, namedOutcome}

@@ -1,20 +1,20 @@
 // The points that a record names by their numbers, placed from the table of the body's points.
 use crate::points::TablePoint;
+use afinfo::NamedPoints;
+use afinfo::focus::FocusAreaMode;
+use afinfo::focus::InFocus;
 use fitting::focus::FocusPoint;
+use geometry::OptionalSize;
+use geometry::Point;
+use geometry::Size;
 use load::focus::FocusAnswer;
 use load::focus::FocusOrigin;
 use load::focus::FocusPoints;
 use load::focus::Located;
 use load::focus::Refusal;
 use load::focus::Window;
-use reading::focus::FocusAreaMode;
-use reading::focus::InFocus;
-use reading::geometry::OptionalSize;
-use reading::geometry::Point;
-use reading::geometry::Size;
 use reading::nikon::Crop;
 use reading::nikon::CropHiSpeed;
-use reading::nikon::NamedPoints;
 ghost use mathlib.Core.Path.{_≡_};
 ghost use Prim.Native.Nat.{_≤_, _<_};
 ghost use lib.ListN.{take};

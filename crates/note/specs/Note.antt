@@ -5,9 +5,10 @@ use Prim.Native.Nat.{ℕ}
 use mathlib.Core.List.{List}
 use Rattle.tiff.specs.Outcome.{Outcome, refused, accepted}
 use Rattle.tiff.specs.Block.{blockOf}
-use Rattle.reading.specs.Record.{recordMeans, afInfo2Of}
+use Rattle.afinfo.specs.Record.{recordMeans}
+use Rattle.reading.specs.Values.{afInfo2Of}
 use Rattle.numbers.specs.declared.io.ByteOrder.{ByteOrder}
-use Rattle.reading.specs.declared.nikon.FocusRecord.{FocusRecord}
+use Rattle.afinfo.specs.declared.FocusRecord.{FocusRecord}
 use Rattle.note.specs.declared.NoteRecord.{NoteRecord}
 use Rattle.note.specs.declared.NoteRecord.the-variants.{Unreadable, Read}
 

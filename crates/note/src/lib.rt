@@ -1,12 +1,13 @@
 // A note: its lent bytes with their byte order, given together, and the few questions that are asked of one.
 // A method only takes the note apart and calls a function of a plain slice and an order; none asks anything of its caller.
+use afinfo::AfInfo2;
 use numbers::io::ByteOrder;
-use reading::nikon::AfInfo2;
 use tiff::ifd::Block;
 use tiff::ifd::Found;
 ghost use mathlib.Core.Path.{_≡_};
 ghost use Rattle.tiff.specs.Block.{findOf, valueOf};
-ghost use Rattle.reading.specs.Record.{recordMeans, afInfo2Of};
+ghost use Rattle.afinfo.specs.Record.{recordMeans};
+ghost use Rattle.reading.specs.Values.{afInfo2Of};
 ghost use Rattle.note.specs.Note.{noteMeans, noteOf};
 
 // A reading of a note.

@@ -1,8 +1,8 @@
 -- The starred examples of 01 hold: the table is computed by the definitions. Assumes nothing.
 use mathlib.Core.Path.{refl}
 use Rattle.numbers.specs.Bytes.{same}
-use Rattle.reading.specs.Focus.{inFocusNumber}
-use Rattle.reading.specs.Record.{layoutAmong, layoutOf, recordOf}
+use Rattle.afinfo.specs.Focus.{inFocusNumber}
+use Rattle.afinfo.specs.Record.{layoutAmong, layoutOf, recordOf}
 use Rattle.fitting.specs.Fit.{axisFits, hasZeroSide, centerLiesOn, areaFits, noArea, liesOn, pointFits, sameSize}
 use Rattle.fitting.specs.Scale.{scaleOf, trimOf, scaledSide, scaledCenter, scaledArea, keptArea, scaledSize, scaledPoint}
 use Rattle.named.specs.Points.{hasTable}

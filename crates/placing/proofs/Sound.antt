@@ -4,17 +4,16 @@ use Prim.Native.Nat.{ℕ}
 use mathlib.Core.List.{List}
 use native.Mathlib.Omega.{arith}
 use Rattle.tiff.specs.Outcome.{Outcome, refused, accepted}
-use Rattle.reading.specs.declared.geometry.OptionalSize.{OptionalSize}
-use Rattle.reading.specs.declared.focus.FocusAreaMode.{FocusAreaMode}
+use Rattle.geometry.specs.declared.OptionalSize.{OptionalSize}
+use Rattle.afinfo.specs.declared.focus.FocusAreaMode.{FocusAreaMode}
 use Rattle.reading.specs.declared.nikon.Crop.{Crop}
 use Rattle.load.specs.Load.{Focus, alone}
 use Rattle.named.specs.Named.{namedOutcome}
 use Rattle.load.specs.Sound.{Sound}
 use Rattle.tiff.specs.Block.{blockOf}
-use Rattle.reading.specs.Values.{manualFocusOf, cropHiSpeedOf, cropAreaOf}
-use Rattle.reading.specs.Record.{afInfo2Of}
+use Rattle.reading.specs.Values.{manualFocusOf, cropHiSpeedOf, cropAreaOf, afInfo2Of}
 use Rattle.reading.specs.declared.nikon.CropArea.{CropArea}
-use Rattle.reading.specs.declared.nikon.FocusRecord.{FocusRecord}
+use Rattle.afinfo.specs.declared.FocusRecord.{FocusRecord}
 use Rattle.recorded.specs.Recorded.{positionOf, Placement}
 use Rattle.placing.specs.Focus.{andThen, refusedToo, pointOf, recordsPosition, placedOf, focusIn, focusOf, LoadSound}
 use Rattle.named.proofs.Frames.{either}

@@ -6,17 +6,17 @@ use mathlib.Core.Path.{_≡_}
 use lib.ListN.{replicate}
 use lib.Dec.{eqb}
 use Rattle.tiff.specs.Outcome.{Outcome, refused, accepted, numberOf}
-use Rattle.reading.specs.Focus.{inFocusNumber}
-use Rattle.reading.specs.Record.{recordOf}
+use Rattle.afinfo.specs.Focus.{inFocusNumber}
+use Rattle.afinfo.specs.Record.{recordOf}
 use Rattle.numbers.specs.declared.io.ByteOrder.the-variants.{Big}
-use Rattle.reading.specs.declared.geometry.Size.{Size}
-use Rattle.reading.specs.declared.geometry.OptionalSize.{OptionalSize}
-use Rattle.reading.specs.declared.geometry.OptionalSize.the-variants.{Missing, Given}
-use Rattle.reading.specs.declared.focus.InFocus.the-variants.{Unrecorded as unrecorded}
-use Rattle.reading.specs.declared.focus.FocusAreaMode.the-variants.{Single}
+use Rattle.geometry.specs.declared.Size.{Size}
+use Rattle.geometry.specs.declared.OptionalSize.{OptionalSize}
+use Rattle.geometry.specs.declared.OptionalSize.the-variants.{Missing, Given}
+use Rattle.afinfo.specs.declared.focus.InFocus.the-variants.{Unrecorded as unrecorded}
+use Rattle.afinfo.specs.declared.focus.FocusAreaMode.the-variants.{Single}
 use Rattle.reading.specs.declared.nikon.Crop.{Crop}
 use Rattle.reading.specs.declared.nikon.Crop.the-variants.{Unrecorded, Recorded}
-use Rattle.reading.specs.declared.nikon.NamedPoints.the-variants.{Named}
+use Rattle.afinfo.specs.declared.NamedPoints.the-variants.{Named}
 use Rattle.fitting.specs.declared.focus.FocusPoint.{FocusPoint}
 use Rattle.fitting.specs.Fit.{axisFits, by}
 use Rattle.fitting.specs.Scale.{scaleOf, scaledPoint}

@@ -4,13 +4,12 @@ use mathlib.Core.Bool.{Bool, true, false, cond, _&&_, not}
 use mathlib.Core.List.{List}
 use Rattle.tiff.specs.Outcome.{Outcome, refused, accepted}
 use Rattle.tiff.specs.Block.{blockOf}
-use Rattle.reading.specs.Values.{manualFocusOf, cropHiSpeedOf, cropAreaOf}
-use Rattle.reading.specs.Record.{afInfo2Of}
+use Rattle.reading.specs.Values.{manualFocusOf, cropHiSpeedOf, cropAreaOf, afInfo2Of}
 use Rattle.numbers.specs.declared.io.ByteOrder.{ByteOrder}
-use Rattle.reading.specs.declared.geometry.OptionalSize.{OptionalSize}
+use Rattle.geometry.specs.declared.OptionalSize.{OptionalSize}
 use Rattle.reading.specs.declared.nikon.Crop.{Crop}
 use Rattle.reading.specs.declared.nikon.CropArea.{CropArea}
-use Rattle.reading.specs.declared.nikon.FocusRecord.{FocusRecord}
+use Rattle.afinfo.specs.declared.FocusRecord.{FocusRecord}
 use Rattle.fitting.specs.declared.focus.FocusPoint.{FocusPoint}
 use Rattle.fitting.specs.Fit.{hasZeroSide}
 use Rattle.load.specs.Load.{Focus, alone}

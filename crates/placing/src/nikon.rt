@@ -1,18 +1,18 @@
 // One load: from a lent block, the two sizes and the model to focus points.
+use afinfo::AfInfo2;
+use afinfo::FocusRecord;
+use afinfo::focus::FocusAreaMode;
 use fitting::focus::FocusPoint;
+use geometry::OptionalSize;
+use geometry::Size;
 use load::focus::FocusAnswer;
 use load::focus::FocusOrigin;
 use load::focus::FocusPoints;
 use load::focus::Located;
 use load::focus::Refusal;
 use numbers::io::ByteOrder;
-use reading::focus::FocusAreaMode;
-use reading::geometry::OptionalSize;
-use reading::geometry::Size;
-use reading::nikon::AfInfo2;
 use reading::nikon::Crop;
 use reading::nikon::CropArea;
-use reading::nikon::FocusRecord;
 use recorded::Position;
 use tiff::ifd::Block;
 ghost use mathlib.Core.Path.{_≡_};

@@ -2,13 +2,13 @@
 // size), the raw and the picture size as four 32-bit numbers, the model's length in a byte, the block's length in two, the
 // model, the block, and zeros. Numbers are big-endian. No contract can say what is printed: that is held to `stdout`.
 use fitting::focus::FocusPoint;
+use geometry::OptionalSize;
+use geometry::Size;
 use libc::STDIN_FILENO;
 use libc::STDOUT_FILENO;
 use load::focus::FocusAnswer;
 use load::focus::FocusPoints;
 use numbers::io::ByteOrder;
-use reading::geometry::OptionalSize;
-use reading::geometry::Size;
 ghost use mathlib.Core.Path.{_≡_};
 ghost use lib.ListN.{length};
 
@@ -31,7 +31,7 @@ fn print_point(p: FocusPoint) {
     number(b" ", center.y);
     number(b" ", size.width);
     number(b" ", size.height);
-    number(b" ", reading::focus::in_focus_number(in_focus));
+    number(b" ", afinfo::focus::in_focus_number(in_focus));
 }
 
 fn print_points(points: [FocusPoint; 39], count: usize) {
@@ -54,7 +54,7 @@ fn print_placed(f: FocusPoints) {
     number(b" ", frame.height);
     number(b" points ", (f.count % 64) as u32);
     number(b" primary ", (f.primary % 64) as u32);
-    number(b" mode ", reading::focus::mode_number(mode));
+    number(b" mode ", afinfo::focus::mode_number(mode));
     number(b" origin ", load::focus::origin_number(origin));
     print_points(points, f.count);
 }

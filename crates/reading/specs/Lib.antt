@@ -1,4 +1,2 @@
-pub mod Focus
 pub mod Values
-pub mod Record
 pub mod Contents

@@ -6,12 +6,15 @@ use lib.ListN.{length, drop}
 use lib.Dec.{leb, ltb, eqb}
 use Rattle.numbers.specs.Numbers.{u16Of, u32Of}
 use Rattle.numbers.specs.Bytes.{same}
+use Rattle.tiff.specs.Outcome.{Outcome, refused}
+use Rattle.afinfo.specs.Record.{recordOf}
+use Rattle.afinfo.specs.declared.FocusRecord.{FocusRecord}
 use Rattle.tiff.specs.Block.{findOf, isKept, typeOf, countOf, valueOf}
 use Rattle.numbers.specs.declared.io.ByteOrder.{ByteOrder}
-use Rattle.reading.specs.declared.geometry.Size.{Size}
-use Rattle.reading.specs.declared.geometry.Point.{Point}
-use Rattle.reading.specs.declared.geometry.OptionalSize.{OptionalSize}
-use Rattle.reading.specs.declared.geometry.OptionalSize.the-variants.{Missing, Given}
+use Rattle.geometry.specs.declared.Size.{Size}
+use Rattle.geometry.specs.declared.Point.{Point}
+use Rattle.geometry.specs.declared.OptionalSize.{OptionalSize}
+use Rattle.geometry.specs.declared.OptionalSize.the-variants.{Missing, Given}
 use Rattle.tiff.specs.declared.ifd.Found.{Found}
 use Rattle.reading.specs.declared.nikon.CropHiSpeed.{CropHiSpeed}
 use Rattle.reading.specs.declared.nikon.Crop.{Crop}
@@ -96,3 +99,7 @@ areaIn o s raw f =
 -- "0045"
 unfoldable pub cropAreaOf : ByteOrder → List ℕ → OptionalSize → CropArea
 cropAreaOf o s raw = areaIn o s raw (findOf o s 69)
+
+-- "first kept entry for tag 00B7 (hexadecimal) absent or not type 7": 2; "record value damaged": 4, as no value has a version
+unfoldable pub afInfo2Of : ByteOrder → List ℕ → Outcome FocusRecord
+afInfo2Of o s = cond (eqb (typeOf (findOf o s 183)) 7) (recordOf o (valueOf s (findOf o s 183))) (refused 2)

@@ -1,16 +1,16 @@
 // Prints what the readers answer for each block of standard input: one block a line, in hexadecimal.
 // A line that starts with '#' is printed as it is. No contract can say what is printed: that is held to `stdout`.
+use afinfo::AfInfo2;
+use afinfo::FocusRecord;
+use afinfo::NamedPoints;
+use geometry::OptionalSize;
+use geometry::Size;
 use libc::STDIN_FILENO;
 use libc::STDOUT_FILENO;
 use numbers::io::ByteOrder;
-use reading::geometry::OptionalSize;
-use reading::geometry::Size;
-use reading::nikon::AfInfo2;
 use reading::nikon::ContentsAnswer;
 use reading::nikon::Crop;
 use reading::nikon::CropArea;
-use reading::nikon::FocusRecord;
-use reading::nikon::NamedPoints;
 use tiff::ifd::Block;
 use tiff::ifd::Found;
 ghost use Prim.Native.Nat.{_<_, _≤_, min};
@@ -168,9 +168,9 @@ fn focus_record(r: FocusRecord) {
     size(b" center ", r.center.x, r.center.y);
     size(b" area ", r.area.width, r.area.height);
     let in_focus = r.in_focus;
-    number(b" focus ", reading::focus::in_focus_number(in_focus) as u64);
+    number(b" focus ", afinfo::focus::in_focus_number(in_focus) as u64);
     let mode = r.area_mode;
-    number(b" mode ", reading::focus::mode_number(mode) as u64);
+    number(b" mode ", afinfo::focus::mode_number(mode) as u64);
     let named = r.named;
     names(named);
 }

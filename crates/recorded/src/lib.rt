@@ -1,8 +1,8 @@
 // A recorded position, placed on the picture that a crop leaves: 01's 'Recorded position'.
 use fitting::focus::FocusPoint;
-use reading::geometry::OptionalSize;
-use reading::geometry::Point;
-use reading::geometry::Size;
+use geometry::OptionalSize;
+use geometry::Point;
+use geometry::Size;
 use reading::nikon::Crop;
 use reading::nikon::CropArea;
 use reading::nikon::CropHiSpeed;

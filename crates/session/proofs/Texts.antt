@@ -14,11 +14,11 @@ use Rattle.text.proofs.Laws.{Puts, _▹_, at-most}
 use Rattle.text.proofs.Lists.{by-cond}
 use Rattle.tiff.specs.Outcome.{Outcome, refused, accepted}
 use Rattle.tiff.specs.Block.{blockOf, findOf, isKept}
-use Rattle.reading.specs.Focus.{modeNumber}
+use Rattle.afinfo.specs.Focus.{modeNumber}
 use Rattle.reading.specs.Contents.{contentsOf, contentsIn, fourTags, keptAmong, keptTags}
 use Rattle.numbers.specs.declared.io.ByteOrder.{ByteOrder}
-use Rattle.reading.specs.declared.geometry.Size.{Size}
-use Rattle.reading.specs.declared.geometry.OptionalSize.{OptionalSize}
+use Rattle.geometry.specs.declared.Size.{Size}
+use Rattle.geometry.specs.declared.OptionalSize.{OptionalSize}
 use Rattle.reading.specs.declared.nikon.TagList.{TagList}
 use Rattle.reading.specs.declared.nikon.ContentsAnswer.the-variants as contents-answers
 use Rattle.fitting.specs.Fit.{hasZeroSide}

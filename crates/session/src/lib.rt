@@ -1,10 +1,10 @@
 // Answers a line: the call that it spells is made of the sheet, and its answer is put as text into a lent buffer.
 use calls::Call;
+use geometry::OptionalSize;
+use geometry::Size;
 use hex::Decoded;
 use listing::ListAnswer;
 use listing::Listing;
-use reading::geometry::OptionalSize;
-use reading::geometry::Size;
 use reading::nikon::ContentsAnswer;
 use sheet::Edited;
 use sheet::Loaded;
@@ -49,7 +49,7 @@ fn head_numbers(l: Listing) -> [u32; 6]
         frame.height,
         l.count as u32,
         l.index as u32,
-        reading::focus::mode_number(mode),
+        afinfo::focus::mode_number(mode),
         load::focus::origin_number(origin),
     ]
 }

@@ -6,7 +6,7 @@ use lib.Dec.{ltb}
 use lib.ListN.{take}
 use native.Mathlib.Omega.{arith}
 use borrow.Author.Tests.{lt-ltb, le-ltb}
-use Rattle.reading.specs.declared.geometry.Size.{Size}
+use Rattle.geometry.specs.declared.Size.{Size}
 use Rattle.sheet.specs.declared.Sheet.{Sheet}
 use Rattle.listing.specs.declared.Listing.{Listing}
 use Rattle.sheet.specs.declared.list.Present.{Present}

@@ -6,8 +6,8 @@ use lib.Dec.{leb, ltb, eqb}
 use lib.ListN.{getD, length, replicate}
 use lib.Seq.{sets}
 use Rattle.tiff.specs.Outcome.{Outcome, refused, accepted}
-use Rattle.reading.specs.declared.geometry.Size.{Size}
-use Rattle.reading.specs.declared.focus.FocusAreaMode.the-variants.{Unnamed}
+use Rattle.geometry.specs.declared.Size.{Size}
+use Rattle.afinfo.specs.declared.focus.FocusAreaMode.the-variants.{Unnamed}
 use Rattle.load.specs.declared.focus.FocusOrigin.the-variants.{Recorded}
 use Rattle.load.specs.declared.focus.FocusAnswer.{FocusAnswer}
 use Rattle.load.specs.declared.focus.FocusAnswer.the-variants as load

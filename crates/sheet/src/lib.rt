@@ -1,14 +1,14 @@
 // The sheet: the points of one load, under edits that stand until they are taken back. Every method takes the sheet by value
 // and gives back what it leaves; it asks nothing of its caller, and a refused call changes nothing.
+use afinfo::focus::FocusAreaMode;
 use edits::Edit;
 use edits::EditAnswer;
 use edits::Placed;
 use fitting::focus::FocusPoint;
+use geometry::OptionalSize;
+use geometry::Size;
 use load::focus::FocusAnswer;
 use load::focus::FocusOrigin;
-use reading::focus::FocusAreaMode;
-use reading::geometry::OptionalSize;
-use reading::geometry::Size;
 ghost use mathlib.Core.Path.{_≡_};
 ghost use Prim.Native.Nat.{_<_, _≤_};
 ghost use Rattle.placing.specs.Focus.{focusOf};

@@ -1,11 +1,11 @@
 // The listing of the points where the standing edits leave them, and in another frame.
 use crate::Sheet;
+use afinfo::focus::FocusAreaMode;
 use fitting::focus::FocusPoint;
+use geometry::Size;
 use listing::ListAnswer;
 use listing::Listing;
 use load::focus::FocusOrigin;
-use reading::focus::FocusAreaMode;
-use reading::geometry::Size;
 ghost use mathlib.Core.Path.{_≡_};
 ghost use mathlib.Core.List.{[], _++_};
 ghost use Prim.Native.Nat.{_+_, _<_, _≤_};

@@ -3,13 +3,13 @@
 // numbers, the model's length in a byte, the block's length in two, the model, the block. 2 cut: left, top, width, height. 3 turn.
 // 4 mirror. 5 back. 6 list: the buffer's places in a byte. 7 fit: width, height, and the buffer's places in a byte. Numbers are
 // big-endian. Place i of a buffer holds i + 1 before a call. No contract can say what is printed: that is held to `stdout`.
+use geometry::OptionalSize;
+use geometry::Size;
 use libc::STDIN_FILENO;
 use libc::STDOUT_FILENO;
 use listing::ListAnswer;
 use listing::Listing;
 use numbers::io::ByteOrder;
-use reading::geometry::OptionalSize;
-use reading::geometry::Size;
 use sheet::Edited;
 use sheet::Loaded;
 use sheet::Sheet;
@@ -58,7 +58,7 @@ fn print_head(l: Listing) {
     number(b" ", frame.height);
     number(b" points ", (l.count % 64) as u32);
     number(b" primary ", (l.index % 64) as u32);
-    number(b" mode ", reading::focus::mode_number(mode));
+    number(b" mode ", afinfo::focus::mode_number(mode));
     number(b" origin ", load::focus::origin_number(origin));
 }
 

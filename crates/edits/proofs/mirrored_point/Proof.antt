@@ -1,7 +1,7 @@
 -- `edit::mirrored_point`: the center by what `less` ensures, the rest as it stands. Assumes nothing.
 use mathlib.Core.Path.{_≡_}
 use Prim.Native.Nat.{ℕ, _-_}
-use Rattle.reading.specs.declared.geometry.Size.{Size}
+use Rattle.geometry.specs.declared.Size.{Size}
 use Rattle.fitting.specs.declared.focus.FocusPoint.{FocusPoint}
 use Rattle.edits.specs.Place.{point, movedTo, mirroredPoint}
 use borrow.Author.Needs.{needs}

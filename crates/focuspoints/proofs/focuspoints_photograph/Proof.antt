@@ -1,7 +1,6 @@
 -- `focuspoints_photograph`: a load's number, or the listing of its points. Assumes nothing.
 use Rattle.focuspoints.proofs.Listing as listing
 use borrow.Author.Needs.{needs}
-use borrow.Author.Needs.{needs}
 use Rattle.focuspoints.proofs.focuspoints_photograph.Statement.{statement}
 use Rattle.focuspoints.proofs.focuspoints_photograph.Tie as tie
 

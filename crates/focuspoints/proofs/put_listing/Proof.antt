@@ -3,7 +3,6 @@ use native.Mathlib.Omega.{arith}
 use Rattle.focuspoints.specs.Buffer.{laidNumbers}
 use Rattle.focuspoints.proofs.Buffers as buffers
 use borrow.Author.Needs.{needs}
-use borrow.Author.Needs.{needs}
 use Rattle.focuspoints.proofs.put_listing.Statement.{statement}
 use Rattle.focuspoints.proofs.put_listing.Tie as tie
 

@@ -6,7 +6,7 @@ use native.Mathlib.Omega.{arith}
 use native.Mathlib.Numerals.{add-one, add-two, add-three, add-four, add-five}
 use lib.ListN.{set, length-set}
 use lib.Seq.{sets}
-use Rattle.reading.specs.Focus.{inFocusNumber}
+use Rattle.afinfo.specs.Focus.{inFocusNumber}
 use Rattle.fitting.specs.declared.focus.FocusPoint.{FocusPoint}
 use Rattle.listing.specs.Listing.{six}
 use borrow.Author.Needs.{needs}

@@ -5,11 +5,11 @@ use mathlib.Core.Bool.{Bool, true, false, not}
 use mathlib.Core.List.{List}
 use borrow.Author.Tests.{eq-eqb, ne-eqb, not-true, not-false}
 use denote.Ref.{now}
-use Rattle.reading.specs.declared.geometry.OptionalSize.{OptionalSize}
-use Rattle.reading.specs.declared.focus.FocusAreaMode.{FocusAreaMode}
+use Rattle.geometry.specs.declared.OptionalSize.{OptionalSize}
+use Rattle.afinfo.specs.declared.focus.FocusAreaMode.{FocusAreaMode}
 use Rattle.reading.specs.declared.nikon.Crop.{Crop}
-use Rattle.reading.specs.declared.nikon.NamedPoints.{NamedPoints}
-use Rattle.reading.specs.declared.nikon.NamedPoints.the-variants as names
+use Rattle.afinfo.specs.declared.NamedPoints.{NamedPoints}
+use Rattle.afinfo.specs.declared.NamedPoints.the-variants as names
 use Rattle.load.specs.declared.focus.Refusal.the-variants.{Unnamed}
 use Rattle.load.specs.declared.focus.Located.the-variants.{Refused, Names}
 use Rattle.load.specs.declared.focus.Window.{Window}

@@ -1,9 +1,9 @@
 -- `named::picture_is`: by cases on the size. Assumes nothing.
 use mathlib.Core.Path.{_≡_}
 use mathlib.Core.Bool.{Bool}
-use Rattle.reading.specs.declared.geometry.Size.{Size}
-use Rattle.reading.specs.declared.geometry.OptionalSize.{OptionalSize}
-use Rattle.reading.specs.declared.geometry.OptionalSize.the-variants.{Missing, Given}
+use Rattle.geometry.specs.declared.Size.{Size}
+use Rattle.geometry.specs.declared.OptionalSize.{OptionalSize}
+use Rattle.geometry.specs.declared.OptionalSize.the-variants.{Missing, Given}
 use Rattle.fitting.specs.Fit.{sameSize}
 use Rattle.named.specs.Named.{pictureIs}
 use borrow.Author.Needs.{needs}

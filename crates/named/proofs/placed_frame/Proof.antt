@@ -2,7 +2,7 @@
 use mathlib.Core.Path.{_≡_}
 use mathlib.Core.Bool.{Bool, true, false}
 use Rattle.tiff.specs.Outcome.{accepted}
-use Rattle.reading.specs.declared.geometry.OptionalSize.{OptionalSize}
+use Rattle.geometry.specs.declared.OptionalSize.{OptionalSize}
 use Rattle.reading.specs.declared.nikon.CropHiSpeed.{CropHiSpeed}
 use Rattle.reading.specs.declared.nikon.Crop.{Crop}
 use Rattle.reading.specs.declared.nikon.Crop.the-variants.{Unrecorded, Recorded}

@@ -6,7 +6,7 @@ use native.Mathlib.Omega.{arith}
 use lib.ListN.{length, take, replicate}
 use lib.Seq.{take-at}
 use Rattle.tiff.specs.Outcome.{refused, accepted}
-use Rattle.reading.specs.declared.focus.FocusAreaMode.{FocusAreaMode}
+use Rattle.afinfo.specs.declared.focus.FocusAreaMode.{FocusAreaMode}
 use Rattle.load.specs.declared.focus.FocusOrigin.the-variants.{Table}
 use Rattle.load.specs.declared.focus.Refusal.the-variants.{Unnamed}
 use Rattle.load.specs.declared.focus.FocusAnswer.the-variants.{Placed}

@@ -1,7 +1,7 @@
 -- `named::uncropped_window`: by the one test. Assumes nothing.
 use mathlib.Core.Path.{_≡_}
 use mathlib.Core.Bool.{Bool, true, false}
-use Rattle.reading.specs.declared.geometry.OptionalSize.{OptionalSize}
+use Rattle.geometry.specs.declared.OptionalSize.{OptionalSize}
 use Rattle.fitting.specs.Fit.{by}
 use Rattle.named.specs.Named.{whole, medium, givenAs, uncropped}
 use borrow.Author.Needs.{needs}

@@ -34,17 +34,18 @@ use denote.Triple.Table.{entered, cited}
 use denote.Triple.Walked.{says, Stays, stay-none, stay-none-slice, walkOf, goes-none, goes-none-slice, Walks, ends-at, walked, walk-meets}
 use denote.Exit.{yes}
 use denote.Triple.Clauses.{ensured, lasts}
-use Rattle.reading.specs.Record.{recordMeans, afInfo2Of}
+use Rattle.afinfo.specs.Record.{recordMeans}
+use Rattle.reading.specs.Values.{afInfo2Of}
 use Rattle.numbers.specs.declared.io.ByteOrder.{ByteOrder}
-use Rattle.reading.specs.declared.nikon.AfInfo2.{AfInfo2}
+use Rattle.afinfo.specs.declared.AfInfo2.{AfInfo2}
 use Rattle.numbers.proofs.io.ByteOrder as O
 use Rattle.numbers.proofs.io.ByteOrder.Laws as O′
 use Rattle.note.specs.declared.Note.{Note}
 use Rattle.note.proofs.Note as T
 use Rattle.note.proofs.Note.Laws as T′
 use Rattle.note.proofs.Apart.{B, blockVal, orderVal, Parts, twice}
-use Rattle.reading.proofs.nikon.AfInfo2 as S
-use Rattle.reading.proofs.nikon.AfInfo2.Laws as S′
+use Rattle.afinfo.proofs.AfInfo2 as S
+use Rattle.afinfo.proofs.AfInfo2.Laws as S′
 use Rattle.note.proofs.Note.new as new
 use Rattle.note.proofs.Note.new.Symbol as new-def
 use Rattle.note.proofs.Note.new.Met as new-thm

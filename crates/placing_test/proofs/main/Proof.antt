@@ -1,5 +1,5 @@
 -- `main` is safe and ends: the buffer keeps its length, and the count of turns falls. Assumes nothing.
-use mathlib.Core.Path.{_≡_, _∙_, sym}
+use mathlib.Core.Path.{_≡_}
 use native.Mathlib.Omega.{arith}
 use lib.ListN.{length}
 use borrow.Author.Needs.{needs}

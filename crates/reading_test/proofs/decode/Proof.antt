@@ -1,7 +1,6 @@
 -- `decode` answers a count of bytes at the buffer's front. The loop writes below that count, which is at most the
 -- buffer's length and half the line's; the buffer keeps its length. The measure is what is left of the count. Assumes nothing.
 use native.Mathlib.Omega.{arith}
-use borrow.Author.Needs.{needs}
 use Prim.Native.Nat.{_≤_, _-_}
 use mathlib.Core.Path.{_≡_, refl, sym, _∙_}
 use lib.ListN.{length, length-set}

@@ -3,7 +3,7 @@ use mathlib.Core.Path.{_≡_}
 use Prim.Native.Nat.{_≤_, _<_}
 use native.Mathlib.Omega.{arith}
 use borrow.Author.Tests.{lt-ltb, le-ltb, eq-eqb, ne-eqb}
-use Rattle.reading.specs.declared.geometry.Size.{Size}
+use Rattle.geometry.specs.declared.Size.{Size}
 use Rattle.recorded.specs.Recorded.{cutBetween}
 use Rattle.recorded.specs.declared.Cut.the-variants.{Other, Both, Width, Height}
 use Rattle.recorded.proofs.cut_of.Statement.{statement}

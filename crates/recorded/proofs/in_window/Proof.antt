@@ -3,7 +3,7 @@ use mathlib.Core.Path.{_≡_}
 use mathlib.Core.Bool.{Bool, true, false, not}
 use borrow.Author.Tests.{not-true, not-false}
 use Rattle.tiff.specs.Outcome.{refused}
-use Rattle.reading.specs.declared.geometry.Size.{Size}
+use Rattle.geometry.specs.declared.Size.{Size}
 use Rattle.fitting.specs.Fit.{pointFits}
 use Rattle.fitting.specs.declared.focus.FocusPoint.{FocusPoint}
 use Rattle.recorded.specs.Recorded.{inWindow, shifts, movedPoint, at}

@@ -1,7 +1,7 @@
 -- `recorded::moved_point`: the definition, coordinate by coordinate. Assumes nothing.
 use mathlib.Core.Path.{_≡_}
 use Prim.Native.Nat.{ℕ, _-_}
-use Rattle.reading.specs.declared.geometry.Size.{Size}
+use Rattle.geometry.specs.declared.Size.{Size}
 use Rattle.fitting.specs.declared.focus.FocusPoint.{FocusPoint}
 use Rattle.recorded.specs.Recorded.{movedPoint, offsetIn}
 use borrow.Author.Needs.{needs}

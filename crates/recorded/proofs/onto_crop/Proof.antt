@@ -1,8 +1,8 @@
 -- `recorded::onto_crop`: by the crop area, then by the picture. Assumes nothing.
 use mathlib.Core.Path.{_≡_, _∙_}
-use Rattle.reading.specs.declared.geometry.Size.{Size}
-use Rattle.reading.specs.declared.geometry.OptionalSize.{OptionalSize}
-use Rattle.reading.specs.declared.geometry.OptionalSize.the-variants.{Missing, Given}
+use Rattle.geometry.specs.declared.Size.{Size}
+use Rattle.geometry.specs.declared.OptionalSize.{OptionalSize}
+use Rattle.geometry.specs.declared.OptionalSize.the-variants.{Missing, Given}
 use Rattle.reading.specs.declared.nikon.CropArea.{CropArea}
 use Rattle.reading.specs.declared.nikon.CropArea.the-variants.{Absent, Window}
 use Rattle.fitting.specs.declared.focus.FocusPoint.{FocusPoint}

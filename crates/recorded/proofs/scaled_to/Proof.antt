@@ -2,7 +2,7 @@
 use mathlib.Core.Path.{_≡_}
 use mathlib.Core.Bool.{Bool, true, false}
 use Rattle.tiff.specs.Outcome.{refused}
-use Rattle.reading.specs.declared.geometry.Size.{Size}
+use Rattle.geometry.specs.declared.Size.{Size}
 use Rattle.fitting.specs.Fit.{hasZeroSide}
 use Rattle.fitting.specs.Scale.{scaledPoint}
 use Rattle.fitting.specs.declared.focus.FocusPoint.{FocusPoint}

@@ -1,7 +1,7 @@
 -- `recorded::window_of_shape`: by what the crop cut. Assumes nothing.
 use mathlib.Core.Path.{_≡_}
 use Prim.Native.Nat.{ℕ}
-use Rattle.reading.specs.declared.geometry.Size.{Size}
+use Rattle.geometry.specs.declared.Size.{Size}
 use Rattle.fitting.specs.Scale.{scaleOf}
 use Rattle.recorded.specs.Recorded.{shapedWindow}
 use Rattle.recorded.specs.declared.Cut.{Cut}

@@ -36,11 +36,12 @@ use denote.Triple.Table.{entered, cited}
 use denote.Triple.Walked.{says, Stays, stay-none, walkOf, goes-none, Walks, ends-at, walked, walk-meets}
 use denote.Exit.{yes}
 use denote.Triple.Clauses.{ensured, lasts}
-use Rattle.reading.specs.Record.{recordMeans, afInfo2Of}
-use Rattle.reading.specs.declared.nikon.AfInfo2.{AfInfo2}
+use Rattle.afinfo.specs.Record.{recordMeans}
+use Rattle.reading.specs.Values.{afInfo2Of}
+use Rattle.afinfo.specs.declared.AfInfo2.{AfInfo2}
 use Rattle.numbers.proofs.io.ByteOrder as O
-use Rattle.reading.proofs.nikon.AfInfo2 as S
-use Rattle.reading.proofs.nikon.AfInfo2.Laws as S′
+use Rattle.afinfo.proofs.AfInfo2 as S
+use Rattle.afinfo.proofs.AfInfo2.Laws as S′
 use Rattle.reading.proofs.nikon.af_info2 as callee
 use Rattle.reading.proofs.nikon.af_info2.Symbol as callee-def
 use Rattle.reading.proofs.nikon.af_info2.Met as callee-thm

@@ -2,8 +2,8 @@
 use mathlib.Core.Path.{_≡_}
 use mathlib.Core.List.{List}
 use lib.ListN.{set, replicate}
-use Rattle.reading.specs.declared.geometry.Size.{Size}
-use Rattle.reading.specs.declared.focus.FocusAreaMode.{FocusAreaMode}
+use Rattle.geometry.specs.declared.Size.{Size}
+use Rattle.afinfo.specs.declared.focus.FocusAreaMode.{FocusAreaMode}
 use Rattle.fitting.specs.declared.focus.FocusPoint.{FocusPoint}
 use Rattle.load.specs.Load.{laidOut, places, noPoint, alone}
 use Rattle.load.specs.declared.focus.FocusOrigin.the-variants.{Recorded}

@@ -2,8 +2,8 @@
 use mathlib.Core.Path.{_≡_, refl}
 use Prim.Native.Nat.{ℕ}
 use Rattle.tiff.specs.Outcome.{Outcome, accepted}
-use Rattle.reading.specs.declared.geometry.Size.{Size}
-use Rattle.reading.specs.declared.focus.FocusAreaMode.{FocusAreaMode}
+use Rattle.geometry.specs.declared.Size.{Size}
+use Rattle.afinfo.specs.declared.focus.FocusAreaMode.{FocusAreaMode}
 use Rattle.fitting.specs.declared.focus.FocusPoint.{FocusPoint}
 use Rattle.load.specs.Load.{Focus, laidOut, refusedBy, refusalNumber, refusalOf, alone}
 use Rattle.named.specs.Named.{placedIn, locatedMeans}

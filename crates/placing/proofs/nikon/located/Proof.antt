@@ -6,7 +6,7 @@ use denote.Ref.{now}
 use Rattle.tiff.specs.Outcome.{Outcome}
 use Rattle.tiff.specs.Block.{blockOf, blockMeans}
 use Rattle.numbers.specs.declared.io.ByteOrder.{ByteOrder}
-use Rattle.reading.specs.declared.geometry.OptionalSize.{OptionalSize}
+use Rattle.geometry.specs.declared.OptionalSize.{OptionalSize}
 use Rattle.tiff.specs.declared.ifd.Block.{Block}
 use Rattle.tiff.specs.declared.ifd.Block.the-variants.{Unreadable, Readable}
 use Rattle.load.specs.Load.{Focus, refusalNumber}

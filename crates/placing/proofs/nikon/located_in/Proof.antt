@@ -5,15 +5,15 @@ use mathlib.Core.List.{List}
 use Prim.Native.Nat.{ℕ}
 use denote.Ref.{now}
 use Rattle.tiff.specs.Outcome.{Outcome, refused}
-use Rattle.reading.specs.Values.{manualFocusOf, cropHiSpeedOf, cropAreaOf}
-use Rattle.reading.specs.Record.{afInfo2Of, recordMeans}
+use Rattle.reading.specs.Values.{manualFocusOf, cropHiSpeedOf, cropAreaOf, afInfo2Of}
+use Rattle.afinfo.specs.Record.{recordMeans}
 use Rattle.numbers.specs.declared.io.ByteOrder.{ByteOrder}
-use Rattle.reading.specs.declared.geometry.OptionalSize.{OptionalSize}
+use Rattle.geometry.specs.declared.OptionalSize.{OptionalSize}
 use Rattle.reading.specs.declared.nikon.Crop.{Crop}
 use Rattle.reading.specs.declared.nikon.CropArea.{CropArea}
-use Rattle.reading.specs.declared.nikon.FocusRecord.{FocusRecord}
-use Rattle.reading.specs.declared.nikon.AfInfo2.{AfInfo2}
-use Rattle.reading.specs.declared.nikon.AfInfo2.the-variants.{Missing, Unusable, Recorded}
+use Rattle.afinfo.specs.declared.FocusRecord.{FocusRecord}
+use Rattle.afinfo.specs.declared.AfInfo2.{AfInfo2}
+use Rattle.afinfo.specs.declared.AfInfo2.the-variants.{Missing, Unusable, Recorded}
 use Rattle.load.specs.Load.{Focus, refusalNumber}
 use Rattle.named.specs.Named.{locatedMeans}
 use Rattle.placing.specs.Focus.{focusIn, placedOf, refusedToo}

@@ -1,7 +1,7 @@
 -- `nikon::records_position`: the frame, then the area. Assumes nothing.
 use mathlib.Core.Path.{_≡_}
-use mathlib.Core.Bool.{Bool, true, false, not, _&&_}
-use Rattle.reading.specs.declared.nikon.FocusRecord.{FocusRecord}
+use mathlib.Core.Bool.{Bool, true, false, not}
+use Rattle.afinfo.specs.declared.FocusRecord.{FocusRecord}
 use Rattle.fitting.specs.Fit.{hasZeroSide}
 use Rattle.placing.specs.Focus.{recordsPosition}
 use borrow.Author.Needs.{needs}

@@ -6,10 +6,11 @@ use borrow.Author.Tests.{eq-eqb, ne-eqb}
 use denote.Ref.{now}
 use Rattle.tiff.specs.Outcome.{Outcome, refused}
 use Rattle.tiff.specs.Block.{findOf, typeOf, valueOf}
-use Rattle.reading.specs.Record.{recordOf, afInfo2Of}
+use Rattle.afinfo.specs.Record.{recordOf}
+use Rattle.reading.specs.Values.{afInfo2Of}
 use Rattle.numbers.specs.declared.io.ByteOrder.{ByteOrder}
 use Rattle.tiff.specs.declared.ifd.Found.{Found}
-use Rattle.reading.specs.declared.nikon.FocusRecord.{FocusRecord}
+use Rattle.afinfo.specs.declared.FocusRecord.{FocusRecord}
 use borrow.Author.Needs.{needs}
 use Rattle.reading.proofs.nikon.af_info2.Statement.{statement}
 use Rattle.reading.proofs.nikon.af_info2.Tie as tie

@@ -3,7 +3,7 @@ use mathlib.Core.Path.{_≡_}
 use mathlib.Core.Bool.{false}
 use mathlib.Core.List.{List}
 use lib.ListN.{replicate}
-use Rattle.reading.specs.declared.focus.FocusAreaMode.the-variants.{Unnamed}
+use Rattle.afinfo.specs.declared.focus.FocusAreaMode.the-variants.{Unnamed}
 use Rattle.fitting.specs.declared.focus.FocusPoint.{FocusPoint}
 use Rattle.load.specs.declared.focus.FocusOrigin.the-variants.{Recorded}
 use Rattle.load.specs.Load.{noPoint}

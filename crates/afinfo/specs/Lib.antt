@@ -1,0 +1,2 @@
+pub mod Focus
+pub mod Record
