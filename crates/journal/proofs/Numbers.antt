@@ -35,10 +35,10 @@ use Rattle.fitting.specs.Fit.{hasZeroSide, pointFits, sameSize}
 use Rattle.fitting.specs.Scale.{scaledPoint}
 use Rattle.placing.specs.Focus.{andThen, refusedToo, pointOf, recordsPosition, placedOf, focusIn, focusOf}
 use Rattle.load.specs.Load.{alone, Focus, refusalOf, refusalNumber}
-use Rattle.named.specs.Named.{dx, samePlace, noneOr, onCrop, uncropped, placedFrame, listed, hasNumber, windowFocus, placedIn, namedOutcome}
+use Rattle.named.specs.Named.{dx, samePlace, noneOr, onCrop, uncropped, placedFrame, listed, hasNumber, windowFocus, placedIn, windowOf, namedOutcome}
 use Rattle.named.specs.Points.{hasTable}
 use Rattle.recorded.specs.Recorded.{at, scaledTo, shifts, movedPoint, inWindow, ontoWindow, ontoPicture, shapedWindow, onto, cutOf, byCrop, positionOf}
-use Rattle.load.specs.declared.focus.Window.{Window as Part}
+use Rattle.named.specs.declared.Window.{Window as Part}
 use Rattle.recorded.specs.declared.Cut.{Cut}
 use Rattle.recorded.specs.declared.Cut.the-variants.{Other, Both, Width, Height}
 use Rattle.journal.specs.Claim.{LoadNumbers}
@@ -149,10 +149,10 @@ inFrame (accepted w) primary mask m h =
     either (hasNumber primary (listed w primary mask)) (accepted (windowFocus w primary mask m)) (refused 6) fine at-6
 
 named : (n : NamedPoints) (model : List ℕ) (k : Crop) (t : OptionalSize) (m : FocusAreaMode) → Numbered (namedOutcome n model k t m)
-unfolding namedOutcome
+unfolding namedOutcome windowOf
 named Unnamed model k t m = at-6
 named (Named code primary mask) model k t m =
-    either (hasTable model && eqb code 3) (placedIn (placedFrame k t) primary mask m) (refused 6) (inFrame (placedFrame k t) primary mask m (frame k t)) at-6
+    inFrame (windowOf code model k t) primary mask m (either (hasTable model && eqb code 3) (placedFrame k t) (refused 6) (frame k t) at-6)
 
 -- ---- a whole load
 record-placed : (r : FocusRecord) (k : Crop) (a : CropArea) (t : OptionalSize) (model : List ℕ) → Numbered (placedOf r k a t model)

@@ -30,29 +30,6 @@ pub enum FocusAnswer {
     Refused(Refusal),
 }
 
-// A part of the table's frame: the frame that points are placed in, and where it starts.
-pub struct Window {
-    pub frame: Size,
-    pub origin: Point,
-}
-
-// Where the points of a load are: nowhere, as it is refused; one recorded position in its frame; or the points that a
-// primary and a mask name in a window of the table's frame.
-pub enum Located {
-    Refused(Refusal),
-    Position {
-        frame: Size,
-        point: FocusPoint,
-        mode: FocusAreaMode,
-    },
-    Names {
-        window: Window,
-        primary: u32,
-        mask: u64,
-        mode: FocusAreaMode,
-    },
-}
-
 // The points of one load in their frame, of which the first `count` places hold one each and `primary` is the index of
 // the primary. Everything is zero where the load is refused.
 pub struct FocusPoints {

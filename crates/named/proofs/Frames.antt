@@ -6,7 +6,7 @@ use Rattle.tiff.specs.Outcome.{Outcome, refused, accepted}
 use Rattle.geometry.specs.declared.OptionalSize.{OptionalSize}
 use Rattle.reading.specs.declared.nikon.Crop.{Crop}
 use Rattle.reading.specs.declared.nikon.Crop.the-variants.{Unrecorded, Recorded}
-use Rattle.load.specs.declared.focus.Window.{Window}
+use Rattle.named.specs.declared.Window.{Window}
 use Rattle.fitting.specs.Fit.{by, sameSize}
 use Rattle.named.specs.Named.{whole, dx, medium, samePlace, givenAs, noneOr, onCrop, uncropped, placedFrame}
 

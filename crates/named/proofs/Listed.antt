@@ -11,7 +11,7 @@ use Rattle.fitting.proofs.Booleans.{both}
 use Rattle.fitting.specs.Fit.{pointFits}
 use Rattle.fitting.specs.declared.focus.FocusPoint.{FocusPoint}
 use Rattle.named.specs.declared.points.TablePoint.{TablePoint}
-use Rattle.load.specs.declared.focus.Window.{Window}
+use Rattle.named.specs.declared.Window.{Window}
 use Rattle.named.specs.Named.{lessOrigin, fitsWindow, isNamed, isListed, listedFrom, hasNumber, indexOf}
 use Rattle.load.specs.Sound.{AllFit}
 

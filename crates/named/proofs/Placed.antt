@@ -15,10 +15,9 @@ use Rattle.afinfo.specs.declared.focus.FocusAreaMode.{FocusAreaMode}
 use Rattle.reading.specs.declared.nikon.Crop.{Crop}
 use Rattle.fitting.proofs.Booleans.{or-second}
 use Rattle.named.specs.declared.points.TablePoint.{TablePoint}
-use Rattle.load.specs.declared.focus.Window.{Window}
-use Rattle.load.specs.Load.{Focus}
+use Rattle.named.specs.declared.Window.{Window}
 use Rattle.named.specs.Points.{hasTable, points, noTablePoint}
-use Rattle.named.specs.Named.{lessOrigin, fitsWindow, isNamed, isListed, placedFrame, listedFrom, hasNumber, placedIn, namedOutcome}
+use Rattle.named.specs.Named.{lessOrigin, fitsWindow, isNamed, isListed, placedFrame, listedFrom, hasNumber, placedIn, windowOf, namedOutcome}
 use Rattle.named.specs.Table.{PlacedByFrame, NoPrimary}
 use Rattle.named.proofs.Frames.{either, by-frame}
 use Rattle.named.proofs.Table.{number-is, fits-at}
@@ -75,7 +74,7 @@ placed-in-frame (accepted w) primary mask mode some few shows =
     rw (has-at w primary mask points (primary - 1) h n (shows (primary - 1) h))
 
 pub placed-by-frame : PlacedByFrame
-unfolding namedOutcome hasTable same
+unfolding namedOutcome windowOf hasTable same
 placed-by-frame primary mask crop picture mode some few =
     placed-in-frame (placedFrame crop picture) primary mask mode some few (frame-shows-all crop picture)
 
@@ -94,10 +93,8 @@ not-in-frame (accepted w) primary mask mode none six =
     rw (has-not w primary mask points other)
 
 pub no-primary : NoPrimary
-unfolding namedOutcome
+unfolding namedOutcome windowOf
 no-primary code primary mask model crop picture mode none =
-    either (λ (o : Outcome Focus). o ≡ refused 6) (hasTable model && eqb code 3)
-    (placedIn (placedFrame crop picture) primary mask mode)
-    (refused 6)
-    (not-in-frame (placedFrame crop picture) primary mask mode none (by-frame SixIfRefused tt tt tt refl crop picture))
-    refl
+    not-in-frame (windowOf code model crop picture) primary mask mode none
+    (either SixIfRefused (hasTable model && eqb code 3) (placedFrame crop picture) (refused 6)
+    (by-frame SixIfRefused tt tt tt refl crop picture) refl)

@@ -2,17 +2,15 @@
 -- more points than there are places. Assumes nothing.
 use Prim.Native.Nat.{ℕ}
 use mathlib.Core.Path.{_≡_, refl}
-use mathlib.Core.Bool.{Bool, true, false, cond, _&&_}
+use mathlib.Core.Bool.{Bool, true, false, cond}
 use native.Mathlib.Omega.{arith}
-use lib.Dec.{eqb}
 use Rattle.tiff.specs.Outcome.{Outcome, refused, accepted}
 use Rattle.afinfo.specs.declared.focus.FocusAreaMode.{FocusAreaMode}
 use Rattle.afinfo.specs.declared.NamedPoints.the-variants.{Unnamed, Named}
-use Rattle.load.specs.declared.focus.Window.{Window}
-use Rattle.named.specs.Points.{hasTable, points}
-use Rattle.named.specs.Named.{placedFrame, listed, hasNumber, windowFocus, placedIn, namedOutcome, NamedSound}
+use Rattle.named.specs.declared.Window.{Window}
+use Rattle.named.specs.Points.{points}
+use Rattle.named.specs.Named.{listed, hasNumber, windowFocus, placedIn, windowOf, namedOutcome, NamedSound}
 use Rattle.load.specs.Sound.{Sound}
-use Rattle.named.proofs.Frames.{either}
 use Rattle.named.proofs.Listed.{present, listed-room, listed-fit}
 
 module _ (primary mask : ℕ) (mode : FocusAreaMode) where
@@ -40,7 +38,4 @@ module _ (primary mask : ℕ) (mode : FocusAreaMode) where
 pub named-sound : NamedSound
 unfolding namedOutcome
 named-sound Unnamed model crop picture mode = tt
-named-sound (Named code primary mask) model crop picture mode =
-    either Sound (hasTable model && eqb code 3) (placedIn (placedFrame crop picture) primary mask mode) (refused 6)
-    (in-frame primary mask mode (placedFrame crop picture))
-    tt
+named-sound (Named code primary mask) model crop picture mode = in-frame primary mask mode (windowOf code model crop picture)

@@ -19,11 +19,9 @@ use Rattle.afinfo.specs.declared.NamedPoints.the-variants.{Unnamed, Named}
 use Rattle.fitting.specs.declared.focus.FocusPoint.{FocusPoint}
 use Rattle.fitting.specs.Fit.{pointFits, sameSize, by}
 use Rattle.load.specs.declared.focus.FocusOrigin.the-variants.{Table}
-use Rattle.load.specs.Load.{alone, refusalNumber, Focus, places}
+use Rattle.load.specs.Load.{Focus, places}
 use Rattle.named.specs.declared.points.TablePoint.{TablePoint}
-use Rattle.load.specs.declared.focus.Located.{Located}
-use Rattle.load.specs.declared.focus.Located.the-variants.{Refused, Position, Names}
-use Rattle.load.specs.declared.focus.Window.{Window}
+use Rattle.named.specs.declared.Window.{Window}
 use Rattle.named.specs.declared.PlacedFrame.{PlacedFrame}
 use Rattle.named.specs.declared.PlacedFrame.the-variants.{Unconfirmed, Confirmed}
 use Rattle.named.specs.declared.Placing.{Placing}
@@ -155,17 +153,15 @@ placedIn (refused n) primary mask mode = refused n
 placedIn (accepted w) primary mask mode =
     cond (hasNumber primary (listed w primary mask)) (accepted (windowFocus w primary mask mode)) (refused 6)
 
--- "no recorded position and named points cannot be placed": 6; "The model must match in full, and the layout code", which is 3
+-- "The model must match in full, and the layout code", which is 3
+unfoldable pub windowOf : ℕ → List ℕ → Crop → OptionalSize → Outcome Window
+windowOf code model crop picture = cond (hasTable model && eqb code 3) (placedFrame crop picture) (refused 6)
+
+-- "no recorded position and named points cannot be placed": 6
 unfoldable pub namedOutcome : NamedPoints → List ℕ → Crop → OptionalSize → FocusAreaMode → Outcome Focus
 namedOutcome Unnamed model crop picture mode = refused 6
 namedOutcome (Named code primary mask) model crop picture mode =
-    cond (hasTable model && eqb code 3) (placedIn (placedFrame crop picture) primary mask mode) (refused 6)
-
--- what the code's answer means in 01's numbers
-abbrev pub locatedMeans : Located → Outcome Focus
-locatedMeans (Refused why) = refused (refusalNumber why)
-locatedMeans (Position f p m) = alone f p m
-locatedMeans (Names w primary mask m) = placedIn (accepted w) primary mask m
+    placedIn (windowOf code model crop picture) primary mask mode
 
 -- named points keep the promise of every accepted load; proofs/Sound.antt has the proof
 abbrev pub NamedSound : Type 0

@@ -1,6 +1,5 @@
 // The points that a record names by their numbers, placed from the table of the body's points.
 use crate::points::TablePoint;
-use afinfo::NamedPoints;
 use afinfo::focus::FocusAreaMode;
 use afinfo::focus::InFocus;
 use fitting::focus::FocusPoint;
@@ -10,19 +9,23 @@ use geometry::Size;
 use load::focus::FocusAnswer;
 use load::focus::FocusOrigin;
 use load::focus::FocusPoints;
-use load::focus::Located;
 use load::focus::Refusal;
-use load::focus::Window;
 use reading::nikon::Crop;
 use reading::nikon::CropHiSpeed;
 ghost use mathlib.Core.Path.{_≡_};
 ghost use Prim.Native.Nat.{_≤_, _<_};
 ghost use lib.ListN.{take};
 ghost use Rattle.load.specs.Load.{laidOut};
-ghost use Rattle.named.specs.Named.{locatedMeans, samePlace, pictureIs, onCrop, uncropped, frameMeans, placedFrame, marked, isNamed, fitsWindow, lessOrigin, isListed, ifListed, listed, listingOf, indexOf, placedIn, namedOutcome};
+ghost use Rattle.named.specs.Named.{samePlace, pictureIs, onCrop, uncropped, frameMeans, placedFrame, marked, isNamed, fitsWindow, lessOrigin, isListed, ifListed, listed, listingOf, indexOf, placedIn, windowOf};
 ghost use Rattle.tiff.specs.Outcome.{accepted};
 
 pub mod points; // points/mod.rs and nikon_d600.rs: the table of the body's points
+
+// A part of the table's frame: the frame that points are placed in, and where it starts.
+pub struct Window {
+    pub frame: Size,
+    pub origin: Point,
+}
 
 // The frame of the points placed from the table, if the crop is one that the table's record confirms.
 pub enum PlacedFrame {
@@ -259,39 +262,15 @@ pub fn placed_in(window: Window, primary: u32, mask: u64, area_mode: FocusAreaMo
     }
 }
 
-// Where the points are that a record with no position names, from the table of the model's points. Refused where it names none, where
-// the model or the layout code is not the table's, and where the crop is not confirmed.
-pub fn located(
-    named: NamedPoints,
-    model: &[u8],
-    crop: Crop,
-    picture: OptionalSize,
-    area_mode: FocusAreaMode,
-) -> Located
-    ensures { λ r. ⌜ locatedMeans r ≡ namedOutcome named (now (model .entry)) crop picture «area_mode» ⌝ }
+// The window of the points that a record names, where the model and the layout code are the table's and the crop is confirmed.
+pub fn window_of(layout_code: u8, model: &[u8], crop: Crop, picture: OptionalSize) -> PlacedFrame
+    ensures { λ r. ⌜ frameMeans r ≡ windowOf «layout_code» (now (model .entry)) crop picture ⌝ }
 {
-    match named {
-        NamedPoints::Named {
-            layout_code,
-            primary,
-            mask,
-        } => {
-            if !crate::points::has_table(model) {
-                return Located::Refused(Refusal::Unnamed);
-            }
-            if layout_code != crate::points::LAYOUT_CODE {
-                return Located::Refused(Refusal::Unnamed);
-            }
-            match placed_frame(crop, picture) {
-                PlacedFrame::Confirmed(window) => Located::Names {
-                    window,
-                    primary: primary as u32,
-                    mask,
-                    mode: area_mode,
-                },
-                PlacedFrame::Unconfirmed => Located::Refused(Refusal::Unnamed),
-            }
-        }
-        NamedPoints::Unnamed => Located::Refused(Refusal::Unnamed),
+    if !crate::points::has_table(model) {
+        return PlacedFrame::Unconfirmed;
     }
+    if layout_code != crate::points::LAYOUT_CODE {
+        return PlacedFrame::Unconfirmed;
+    }
+    placed_frame(crop, picture)
 }

@@ -6,9 +6,9 @@ use Rattle.afinfo.specs.Record.{layoutAmong, layoutOf, recordOf}
 use Rattle.fitting.specs.Fit.{axisFits, hasZeroSide, centerLiesOn, areaFits, noArea, liesOn, pointFits, sameSize}
 use Rattle.fitting.specs.Scale.{scaleOf, trimOf, scaledSide, scaledCenter, scaledArea, keptArea, scaledSize, scaledPoint}
 use Rattle.named.specs.Points.{hasTable}
-use Rattle.named.specs.Named.{samePlace, pictureIs, onCrop, uncropped, placedFrame, marked, fitsWindow, isNamed, isListed, listedFrom, hasNumber, indexOf, placedIn, namedOutcome}
+use Rattle.named.specs.Named.{samePlace, pictureIs, onCrop, uncropped, placedFrame, marked, fitsWindow, isNamed, isListed, listedFrom, hasNumber, indexOf, placedIn, windowOf, namedOutcome}
 use Rattle.placing.specs.Examples.{samePoint, isOnly, agrees, holds, Starred}
 
 pub starred : Starred
-unfolding holds agrees isOnly samePoint inFocusNumber same layoutAmong layoutOf recordOf hasTable axisFits hasZeroSide centerLiesOn areaFits noArea liesOn pointFits scaleOf trimOf scaledSide scaledCenter scaledArea keptArea scaledSize scaledPoint sameSize samePlace pictureIs onCrop uncropped placedFrame marked fitsWindow isNamed isListed listedFrom hasNumber indexOf placedIn namedOutcome
+unfolding holds agrees isOnly samePoint inFocusNumber same layoutAmong layoutOf recordOf hasTable axisFits hasZeroSide centerLiesOn areaFits noArea liesOn pointFits scaleOf trimOf scaledSide scaledCenter scaledArea keptArea scaledSize scaledPoint sameSize samePlace pictureIs onCrop uncropped placedFrame marked fitsWindow isNamed isListed listedFrom hasNumber indexOf placedIn windowOf namedOutcome
 starred = refl

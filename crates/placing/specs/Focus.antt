@@ -12,10 +12,12 @@ use Rattle.reading.specs.declared.nikon.CropArea.{CropArea}
 use Rattle.afinfo.specs.declared.FocusRecord.{FocusRecord}
 use Rattle.fitting.specs.declared.focus.FocusPoint.{FocusPoint}
 use Rattle.fitting.specs.Fit.{hasZeroSide}
-use Rattle.load.specs.Load.{Focus, alone}
+use Rattle.load.specs.Load.{Focus, alone, refusalNumber}
+use Rattle.placing.specs.declared.nikon.Located.{Located}
+use Rattle.placing.specs.declared.nikon.Located.the-variants.{Refused, Position, Names}
 use Rattle.load.specs.Sound.{Sound}
 use Rattle.recorded.specs.Recorded.{positionOf}
-use Rattle.named.specs.Named.{namedOutcome}
+use Rattle.named.specs.Named.{placedIn, namedOutcome}
 
 -- an accepted value is handed on, a refusal stays
 abbrev pub andThen : {A B : Type 0} → Outcome A → (A → Outcome B) → Outcome B
@@ -35,6 +37,12 @@ pointOf r = record { number = 0; center = r .center; size = r .area; «in_focus�
 -- "Recorded position, if no side of frame or area is zero"
 unfoldable pub recordsPosition : FocusRecord → Bool
 recordsPosition r = not (hasZeroSide (r .frame)) && not (hasZeroSide (r .area))
+
+-- what the code's answer means in 01's numbers
+abbrev pub locatedMeans : Located → Outcome Focus
+locatedMeans (Refused why) = refused (refusalNumber why)
+locatedMeans (Position f p m) = alone f p m
+locatedMeans (Names w primary mask m) = placedIn (accepted w) primary mask m
 
 -- "recorded position cannot be placed": 5; "no recorded position and named points cannot be placed": 6
 unfoldable pub placedOf : FocusRecord → Crop → CropArea → OptionalSize → List ℕ → Outcome Focus

@@ -1,6 +1,7 @@
 // One load: from a lent block, the two sizes and the model to focus points.
 use afinfo::AfInfo2;
 use afinfo::FocusRecord;
+use afinfo::NamedPoints;
 use afinfo::focus::FocusAreaMode;
 use fitting::focus::FocusPoint;
 use geometry::OptionalSize;
@@ -8,17 +9,35 @@ use geometry::Size;
 use load::focus::FocusAnswer;
 use load::focus::FocusOrigin;
 use load::focus::FocusPoints;
-use load::focus::Located;
 use load::focus::Refusal;
+use named::PlacedFrame;
+use named::Window;
 use numbers::io::ByteOrder;
 use reading::nikon::Crop;
 use reading::nikon::CropArea;
 use recorded::Position;
 use tiff::ifd::Block;
 ghost use mathlib.Core.Path.{_≡_};
+ghost use Rattle.named.specs.Named.{namedOutcome};
 ghost use Rattle.load.specs.Load.{laidOut, alone};
-ghost use Rattle.placing.specs.Focus.{pointOf, recordsPosition, placedOf, focusIn, focusOf};
-ghost use Rattle.named.specs.Named.{locatedMeans};
+ghost use Rattle.placing.specs.Focus.{pointOf, recordsPosition, locatedMeans, placedOf, focusIn, focusOf};
+
+// Where the points of a load are: nowhere, as it is refused; one recorded position in its frame; or the points that a
+// primary and a mask name in a window of the table's frame.
+enum Located {
+    Refused(Refusal),
+    Position {
+        frame: Size,
+        point: FocusPoint,
+        mode: FocusAreaMode,
+    },
+    Names {
+        window: Window,
+        primary: u32,
+        mask: u64,
+        mode: FocusAreaMode,
+    },
+}
 
 // The point that a record's position is.
 fn point_of(recorded: FocusRecord) -> FocusPoint
@@ -64,8 +83,36 @@ fn alone_in(frame: Size, point: FocusPoint, mode: FocusAreaMode) -> FocusPoints
     }
 }
 
+// Where the points are that a record with no position names.
+fn locate_names(
+    named: NamedPoints,
+    model: &[u8],
+    crop: Crop,
+    picture: OptionalSize,
+    mode: FocusAreaMode,
+) -> Located
+    ensures { λ r. ⌜ locatedMeans r ≡ namedOutcome named (now (model .entry)) crop picture mode ⌝ }
+{
+    match named {
+        NamedPoints::Named {
+            layout_code,
+            primary,
+            mask,
+        } => match named::window_of(layout_code, model, crop, picture) {
+            PlacedFrame::Confirmed(window) => Located::Names {
+                window,
+                primary: primary as u32,
+                mask,
+                mode,
+            },
+            PlacedFrame::Unconfirmed => Located::Refused(Refusal::Unnamed),
+        },
+        NamedPoints::Unnamed => Located::Refused(Refusal::Unnamed),
+    }
+}
+
 // Where the points of a record are: at its position, or else at the points that it names.
-fn located_record(
+fn locate_record(
     recorded: FocusRecord,
     crop: Crop,
     area: CropArea,
@@ -77,7 +124,7 @@ fn located_record(
     let mode = recorded.area_mode;
     if !records_position(recorded) {
         let named = recorded.named;
-        return named::located(named, model, crop, picture, mode);
+        return locate_names(named, model, crop, picture, mode);
     }
     let frame = recorded.frame;
     match recorded::in_crop(point_of(recorded), frame, crop, area, picture) {
@@ -94,7 +141,7 @@ fn located_record(
 }
 
 // Where the points are of a block that can be read.
-fn located_in(
+fn locate_in(
     block: &[u8],
     order: ByteOrder,
     raw: OptionalSize,
@@ -117,17 +164,17 @@ fn located_in(
             }
             let crop = reading::nikon::crop_hi_speed(block, order);
             let area = reading::nikon::crop_area(block, order, raw);
-            located_record(recorded, crop, area, picture, model)
+            locate_record(recorded, crop, area, picture, model)
         }
     }
 }
 
 // Where the points of a load are.
-fn located(block: &[u8], raw: OptionalSize, picture: OptionalSize, model: &[u8]) -> Located
+fn locate(block: &[u8], raw: OptionalSize, picture: OptionalSize, model: &[u8]) -> Located
     ensures { λ r. ⌜ locatedMeans r ≡ focusOf (now (block .entry)) raw picture (now (model .entry)) ⌝ }
 {
     match tiff::ifd::parse_block(block) {
-        Block::Readable(order) => located_in(block, order, raw, picture, model),
+        Block::Readable(order) => locate_in(block, order, raw, picture, model),
         Block::Unreadable => Located::Refused(Refusal::Unreadable),
     }
 }
@@ -136,7 +183,7 @@ fn located(block: &[u8], raw: OptionalSize, picture: OptionalSize, model: &[u8])
 pub fn focus(block: &[u8], raw: OptionalSize, picture: OptionalSize, model: &[u8]) -> FocusPoints
     ensures { λ r. ⌜ r ≡ laidOut (focusOf (now (block .entry)) raw picture (now (model .entry))) ⌝ }
 {
-    match located(block, raw, picture, model) {
+    match locate(block, raw, picture, model) {
         Located::Refused(why) => load::focus::no_points(why),
         Located::Position { frame, point, mode } => alone_in(frame, point, mode),
         Located::Names {

@@ -7,6 +7,7 @@ use geometry::OptionalSize;
 use geometry::Size;
 use libc::STDIN_FILENO;
 use libc::STDOUT_FILENO;
+use note::NoteRecord;
 use numbers::io::ByteOrder;
 use reading::nikon::ContentsAnswer;
 use reading::nikon::Crop;
@@ -175,11 +176,19 @@ fn focus_record(r: FocusRecord) {
     names(named);
 }
 
-fn af_info2(block: &[u8], order: ByteOrder) {
-    match reading::nikon::af_info2(block, order) {
+fn af_info2(found: AfInfo2) {
+    match found {
         AfInfo2::Recorded(r) => focus_record(r),
         AfInfo2::Unusable => text(b" | no 4"),
         AfInfo2::Missing => text(b" | no 2"),
+    }
+}
+
+// The record, asked of the block's note.
+fn record(block: &[u8]) {
+    match note::record_in(block) {
+        NoteRecord::Read(found) => af_info2(found),
+        NoteRecord::Unreadable => text(b" | no 1"),
     }
 }
 
@@ -212,7 +221,7 @@ fn values(block: &[u8], order: ByteOrder) {
     manual_focus(block, order);
     crop(block, order);
     crop_areas(block, order);
-    af_info2(block, order);
+    record(block);
 }
 
 fn report(s: &[u8]) {

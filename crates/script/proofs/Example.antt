@@ -8,7 +8,7 @@ use Rattle.afinfo.specs.Record.{layoutAmong, layoutOf, areaModeOf, maskOf, size
 use Rattle.afinfo.specs.Focus.{inFocusNumber, modeNumber}
 use Rattle.fitting.specs.Fit.{axisFits, hasZeroSide, centerLiesOn, areaFits, noArea, liesOn, pointFits}
 use Rattle.named.specs.Points.{hasTable}
-use Rattle.named.specs.Named.{pictureIs, uncropped, placedFrame, marked, fitsWindow, isNamed, isListed, listedFrom, hasNumber, indexOf, placedIn, namedOutcome}
+use Rattle.named.specs.Named.{pictureIs, uncropped, placedFrame, marked, fitsWindow, isNamed, isListed, listedFrom, hasNumber, indexOf, placedIn, windowOf, namedOutcome}
 use Rattle.placing.specs.Focus.{recordsPosition, placedOf, focusIn, focusOf}
 use Rattle.load.specs.Load.{originNumber}
 use Rattle.journal.specs.Journal.{frameAfter, carried, listed, isBadCut, journalLoad, changeRefusal, journalChange, numbers, written, journalList}
@@ -23,5 +23,5 @@ use Rattle.script.specs.Script.{linesFrom, joined, scriptText}
 use Rattle.script.specs.Example.{WholeCase}
 
 pub whole-case : WholeCase
-unfolding same u16Of u32Of shortsOf offsetOf entryCount directoryOf inOrder byMark blockOf sizeOf entryOf hasTag firstOf findOf manualFocusOf cropHiSpeedOf cropAreaOf layoutAmong layoutOf areaModeOf maskOf sizeAt recordIn recordOf afInfo2Of inFocusNumber modeNumber axisFits hasZeroSide centerLiesOn areaFits noArea liesOn pointFits hasTable pictureIs uncropped placedFrame marked fitsWindow isNamed isListed listedFrom hasNumber indexOf placedIn namedOutcome recordsPosition placedOf focusIn focusOf originNumber frameAfter carried listed isBadCut journalLoad changeRefusal journalChange numbers written journalList journalStep digitsIn digitsOf headText pointText pointsText digitOf allDigits wellFormed halfOf bytesOf sum sizeIn modelPart blockPart sidesAgree optional isLoad loadOf cutOf byCode callOf spelledIn spelled givenText journalTexts linesFrom joined scriptText
+unfolding same u16Of u32Of shortsOf offsetOf entryCount directoryOf inOrder byMark blockOf sizeOf entryOf hasTag firstOf findOf manualFocusOf cropHiSpeedOf cropAreaOf layoutAmong layoutOf areaModeOf maskOf sizeAt recordIn recordOf afInfo2Of inFocusNumber modeNumber axisFits hasZeroSide centerLiesOn areaFits noArea liesOn pointFits hasTable pictureIs uncropped placedFrame marked fitsWindow isNamed isListed listedFrom hasNumber indexOf placedIn windowOf namedOutcome recordsPosition placedOf focusIn focusOf originNumber frameAfter carried listed isBadCut journalLoad changeRefusal journalChange numbers written journalList journalStep digitsIn digitsOf headText pointText pointsText digitOf allDigits wellFormed halfOf bytesOf sum sizeIn modelPart blockPart sidesAgree optional isLoad loadOf cutOf byCode callOf spelledIn spelled givenText journalTexts linesFrom joined scriptText
 whole-case = refl

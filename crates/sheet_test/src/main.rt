@@ -64,10 +64,8 @@ fn print_head(l: Listing) {
 
 fn print_list(a: ListAnswer) {
     match a {
-        ListAnswer::Empty => text(b"no 7"),
-        ListAnswer::ZeroBox => text(b"no 12"),
-        ListAnswer::Short => text(b"no 13"),
         ListAnswer::Listed(l) => print_head(l),
+        _ => number(b"no ", listing::list_number(a)),
     }
 }
 

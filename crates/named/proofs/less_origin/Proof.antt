@@ -6,7 +6,7 @@ use mathlib.Core.Bool.{Bool, true, false, not}
 use borrow.Author.Tests.{le-leb, lt-leb, not-true, not-false}
 use Rattle.fitting.specs.Fit.{pointFits}
 use Rattle.named.specs.declared.points.TablePoint.{TablePoint}
-use Rattle.load.specs.declared.focus.Window.{Window}
+use Rattle.named.specs.declared.Window.{Window}
 use Rattle.named.specs.declared.Placing.the-variants.{Left, Listed}
 use Rattle.named.specs.Named.{lessOrigin, fitsWindow, ifListed}
 use borrow.Author.Needs.{needs}

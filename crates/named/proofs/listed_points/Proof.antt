@@ -12,7 +12,7 @@ use lib.Seq.{drop-cons}
 use Rattle.tiff.proofs.Collect.{Held, stored, finished}
 use Rattle.fitting.specs.declared.focus.FocusPoint.{FocusPoint}
 use Rattle.named.specs.declared.points.TablePoint.{TablePoint}
-use Rattle.load.specs.declared.focus.Window.{Window}
+use Rattle.named.specs.declared.Window.{Window}
 use Rattle.named.specs.declared.Placing.{Placing}
 use Rattle.named.specs.declared.Placing.the-variants.{Left, Listed}
 use Rattle.named.specs.declared.Listing.{Listing}

@@ -6,7 +6,7 @@ use Rattle.geometry.specs.declared.OptionalSize.{OptionalSize}
 use Rattle.reading.specs.declared.nikon.CropHiSpeed.{CropHiSpeed}
 use Rattle.reading.specs.declared.nikon.Crop.{Crop}
 use Rattle.reading.specs.declared.nikon.Crop.the-variants.{Unrecorded, Recorded}
-use Rattle.load.specs.declared.focus.Window.{Window}
+use Rattle.named.specs.declared.Window.{Window}
 use Rattle.named.specs.declared.PlacedFrame.{PlacedFrame}
 use Rattle.fitting.specs.Fit.{sameSize}
 use Rattle.named.specs.Named.{onCrop, uncropped, placedFrame, frameMeans}

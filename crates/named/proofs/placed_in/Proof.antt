@@ -11,7 +11,7 @@ use Rattle.load.specs.declared.focus.FocusOrigin.the-variants.{Table}
 use Rattle.load.specs.declared.focus.Refusal.the-variants.{Unnamed}
 use Rattle.load.specs.declared.focus.FocusAnswer.the-variants.{Placed}
 use Rattle.load.specs.declared.focus.FocusPoints.{FocusPoints}
-use Rattle.load.specs.declared.focus.Window.{Window}
+use Rattle.named.specs.declared.Window.{Window}
 use Rattle.named.specs.declared.Listing.{Listing}
 use Rattle.load.specs.Load.{noPoint, places, refusalOf, refusedBy, laidOut}
 use Rattle.named.specs.Points.{points as table}

@@ -4,7 +4,7 @@ use mathlib.Core.Path.{_≡_}
 use mathlib.Core.Bool.{Bool, true, false, not}
 use borrow.Author.Tests.{not-true, not-false}
 use Rattle.named.specs.declared.points.TablePoint.{TablePoint}
-use Rattle.load.specs.declared.focus.Window.{Window}
+use Rattle.named.specs.declared.Window.{Window}
 use Rattle.named.specs.declared.Placing.{Placing}
 use Rattle.named.specs.declared.Placing.the-variants.{Left}
 use Rattle.named.specs.Named.{lessOrigin, fitsWindow, isNamed, isListed, ifListed}

@@ -6,13 +6,14 @@ use Rattle.geometry.specs.declared.Size.{Size}
 use Rattle.afinfo.specs.declared.focus.FocusAreaMode.{FocusAreaMode}
 use Rattle.fitting.specs.declared.focus.FocusPoint.{FocusPoint}
 use Rattle.load.specs.Load.{Focus, laidOut, refusedBy, refusalNumber, refusalOf, alone}
-use Rattle.named.specs.Named.{placedIn, locatedMeans}
+use Rattle.named.specs.Named.{placedIn}
+use Rattle.placing.specs.Focus.{locatedMeans}
 use Rattle.load.specs.declared.focus.FocusPoints.{FocusPoints}
 use Rattle.load.specs.declared.focus.Refusal.{Refusal}
 use Rattle.load.specs.declared.focus.Refusal.the-variants.{Unreadable, Missing, Manual, Unusable, Unplaced, Unnamed}
-use Rattle.load.specs.declared.focus.Located.{Located}
-use Rattle.load.specs.declared.focus.Located.the-variants.{Refused, Position, Names}
-use Rattle.load.specs.declared.focus.Window.{Window}
+use Rattle.placing.specs.declared.nikon.Located.{Located}
+use Rattle.placing.specs.declared.nikon.Located.the-variants.{Refused, Position, Names}
+use Rattle.named.specs.declared.Window.{Window}
 -- a refusal is the one that has its number
 use borrow.Author.Needs.{needs}
 use Rattle.placing.proofs.nikon.focus.Statement.{statement}
@@ -39,8 +40,8 @@ module _ (o : Outcome Focus) (x : Located) (ex : locatedMeans x ≡ o) (v : Focu
       v ≡ laidOut (placedIn (accepted w) primary mask m) → v ≡ laidOut o
   names w primary mask m e ev = rw (← ex, e) ev
 
-located-requires : tie.Need-located-requires
-located-requires c κs = search needs
+locate-requires : tie.Need-locate-requires
+locate-requires c κs = search needs
 
 enum-known-why : tie.Need-enum-known-why
 enum-known-why c = search needs
@@ -62,24 +63,24 @@ placed-in-requires c κs = search needs
 
 returns : tie.Need-returns
 returns c =
-    nowhere _ _ (c .before .before .before .before .located .ensures) _ _ (c .before .before .why .given .1)
+    nowhere _ _ (c .before .before .before .before .locate .ensures) _ _ (c .before .before .why .given .1)
     (c .no-points .ensures)
 
 returns-2 : tie.Need-returns-2
 returns-2 c =
-    position _ _ (c .before .before .before .before .located .ensures) _ _ _ _ (c .before .before .frame .given .1)
+    position _ _ (c .before .before .before .before .locate .ensures) _ _ _ _ (c .before .before .frame .given .1)
     (c .alone-in .ensures)
 
 returns-3 : tie.Need-returns-3
 returns-3 c =
-    names _ _ (c .before .before .before .before .located .ensures) _ _ _ _ _ (c .before .before .window .given .1)
+    names _ _ (c .before .before .before .before .locate .ensures) _ _ _ _ _ (c .before .before .window .given .1)
     (c .placed-in .ensures)
 
 pub focus-spec : {M : Type 1} → statement M
 focus-spec =
     tie.close
     (tie.spec
-    located-requires
+    locate-requires
     enum-known-why
     no-points-requires
     enum-known-frame

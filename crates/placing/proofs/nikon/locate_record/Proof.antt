@@ -1,4 +1,4 @@
--- `nikon::located_record`: by whether the record has a position, then by whether it can be placed. Assumes nothing.
+-- `nikon::locate_record`: by whether the record has a position, then by whether it can be placed. Assumes nothing.
 use mathlib.Core.Path.{_≡_}
 use mathlib.Core.Bool.{Bool, true, false, not}
 use mathlib.Core.List.{List}
@@ -14,15 +14,15 @@ use Rattle.afinfo.specs.declared.FocusRecord.{FocusRecord}
 use Rattle.fitting.specs.declared.focus.FocusPoint.{FocusPoint}
 use Rattle.load.specs.Load.{Focus, refusalNumber}
 use Rattle.recorded.specs.Recorded.{positionOf, positionMeans}
-use Rattle.named.specs.Named.{namedOutcome, locatedMeans}
-use Rattle.placing.specs.Focus.{placedOf, recordsPosition, pointOf}
+use Rattle.named.specs.Named.{namedOutcome}
+use Rattle.placing.specs.Focus.{locatedMeans, placedOf, recordsPosition, pointOf}
 use Rattle.load.specs.declared.focus.Refusal.the-variants as why
-use Rattle.load.specs.declared.focus.Located.the-variants as at
+use Rattle.placing.specs.declared.nikon.Located.the-variants as at
 use Rattle.recorded.specs.declared.Position.{Position}
 use Rattle.recorded.specs.declared.Position.the-variants.{Unplaced, Placed}
 use borrow.Author.Needs.{needs}
-use Rattle.placing.proofs.nikon.located_record.Statement.{statement}
-use Rattle.placing.proofs.nikon.located_record.Tie as tie
+use Rattle.placing.proofs.nikon.locate_record.Statement.{statement}
+use Rattle.placing.proofs.nikon.locate_record.Tie as tie
 
 module _ (r : FocusRecord) (c : Crop) (a : CropArea) (t : OptionalSize) (m : List ℕ) (b : Bool) (eb : b ≡ recordsPosition r) where
   names : (o : Outcome Focus) → not b ≡ true → o ≡ namedOutcome (r .named) m c t (r .«area_mode») → o ≡ placedOf r c a t m
@@ -42,14 +42,14 @@ module _ (r : FocusRecord) (c : Crop) (a : CropArea) (t : OptionalSize) (m : Lis
 records-position-requires : tie.Need-records-position-requires
 records-position-requires c κs = search needs
 
-located-requires : tie.Need-located-requires
-located-requires c κs = search needs
+locate-names-requires : tie.Need-locate-names-requires
+locate-names-requires c κs = search needs
 
 returns : tie.Need-returns
 returns c =
     let a = c .before .before .before .before .args in
     names (a .recorded) (a .crop) (a .area) (a .picture) (now (a .model)) _ (c .before .before .records-position .ensures) _
-    (c .before .if1 .taken) (c .located .ensures)
+    (c .before .if1 .taken) (c .locate-names .ensures)
 
 point-of-requires : tie.Need-point-of-requires
 point-of-requires c κs = search needs
@@ -79,12 +79,12 @@ returns-3 c =
     (c .before .before .before .before .before .if1 .left) _ (c .before .before .before .point-of .ensures) _
     (c .before .before .in-crop .ensures) (c .enum-told .given .1)
 
-pub located-record-spec : {M : Type 1} → statement M
-located-record-spec =
+pub locate-record-spec : {M : Type 1} → statement M
+locate-record-spec =
     tie.close
     (tie.spec
     records-position-requires
-    located-requires
+    locate-names-requires
     returns
     point-of-requires
     in-crop-requires

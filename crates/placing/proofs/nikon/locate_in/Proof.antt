@@ -1,4 +1,4 @@
--- `nikon::located_in`: by the record, then by FocusMode: the lowest number first. Assumes nothing.
+-- `nikon::locate_in`: by the record, then by FocusMode: the lowest number first. Assumes nothing.
 use mathlib.Core.Path.{_≡_, refl}
 use mathlib.Core.Bool.{Bool, true, false}
 use mathlib.Core.List.{List}
@@ -15,14 +15,13 @@ use Rattle.afinfo.specs.declared.FocusRecord.{FocusRecord}
 use Rattle.afinfo.specs.declared.AfInfo2.{AfInfo2}
 use Rattle.afinfo.specs.declared.AfInfo2.the-variants.{Missing, Unusable, Recorded}
 use Rattle.load.specs.Load.{Focus, refusalNumber}
-use Rattle.named.specs.Named.{locatedMeans}
-use Rattle.placing.specs.Focus.{focusIn, placedOf, refusedToo}
+use Rattle.placing.specs.Focus.{locatedMeans, focusIn, placedOf, refusedToo}
 use Rattle.load.specs.declared.focus.Refusal.the-variants as why
-use Rattle.load.specs.declared.focus.Located.the-variants.{Refused}
+use Rattle.placing.specs.declared.nikon.Located.the-variants.{Refused}
 -- a missing record is refused before FocusMode is looked at
 use borrow.Author.Needs.{needs}
-use Rattle.placing.proofs.nikon.located_in.Statement.{statement}
-use Rattle.placing.proofs.nikon.located_in.Tie as tie
+use Rattle.placing.proofs.nikon.locate_in.Statement.{statement}
+use Rattle.placing.proofs.nikon.locate_in.Tie as tie
 
 before-manual : (b : Bool) → _≡_ {A = Outcome FocusRecord} (refusedToo 3 b (refused 2)) (refused 2)
 before-manual true = refl
@@ -90,8 +89,8 @@ crop-hi-speed-requires c κs = search needs
 crop-area-requires : tie.Need-crop-area-requires
 crop-area-requires c κs = search needs
 
-located-record-requires : tie.Need-located-record-requires
-located-record-requires c κs = search needs
+locate-record-requires : tie.Need-locate-record-requires
+locate-record-requires c κs = search needs
 
 returns-3 : tie.Need-returns-3
 returns-3 c =
@@ -113,10 +112,10 @@ returns-5 c =
     (c .before .before .before .before .before .before .before .before .record-of .ensures) _
     (c .before .before .before .before .manual-focus2 .ensures) _
     (c .before .before .before .before .before .before .recorded .given .1) (c .before .before .before .if2 .left) _
-    (c .before .before .crop-hi-speed .ensures) _ (c .before .crop-area .ensures) _ (c .located-record .ensures)
+    (c .before .before .crop-hi-speed .ensures) _ (c .before .crop-area .ensures) _ (c .locate-record .ensures)
 
-pub located-in-spec : {M : Type 1} → statement M
-located-in-spec =
+pub locate-in-spec : {M : Type 1} → statement M
+locate-in-spec =
     tie.close
     (tie.spec
     record-of-requires
@@ -129,7 +128,7 @@ located-in-spec =
     returns-2
     crop-hi-speed-requires
     crop-area-requires
-    located-record-requires
+    locate-record-requires
     returns-3
     returns-4
     returns-5)
