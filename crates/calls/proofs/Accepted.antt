@@ -16,10 +16,11 @@ use Rattle.numbers.specs.declared.io.ByteOrder.the-variants.{Big}
 use Rattle.geometry.specs.declared.Size.{Size}
 use Rattle.text.proofs.Lists.{by-cond, and-both}
 use Rattle.hex.specs.Hex.{sum, checks}
+use Rattle.hex.specs.Laws.{Bytes}
 use Rattle.calls.specs.declared.Call.{Call}
 use Rattle.calls.specs.declared.Call.the-variants.{Malformed, Load, Turn, Mirror, Back, ListPoints}
 use Rattle.calls.specs.Format.{ofLength, numberAt, sizeAt, sidesAgree, optional, hasRaw, hasPicture, flags, modelLength, isLoad, loadOf, cutOf, fitOf, contentsOf, byCode, callOf, modelPart, blockPart, contentsPart}
-use Rattle.calls.specs.Laws.{fourBytes, sizeBytes, isGiven, flagByte, sidesOf, body, checkOf, checked, Number, SizeNumbers, Encodable, modelGiven, blockGiven, Bytes, Encodes, ReadIsEncoded}
+use Rattle.calls.specs.Laws.{fourBytes, sizeBytes, isGiven, flagByte, sidesOf, body, checkOf, checked, Number, SizeNumbers, Encodable, modelGiven, blockGiven, Encodes, ReadIsEncoded}
 use Rattle.calls.proofs.Encoded.{sum-snoc}
 
 -- ---- a number
@@ -82,7 +83,7 @@ module _ (b : List ℕ) (h : Bytes b) (some : 1 ≤ length b) where
       rw y (sym z)
 
 -- ---- the parts at their places
-bytes-from : (b : List ℕ) → Bytes b → (n : ℕ) → Bytes (drop n b)
+pub bytes-from : (b : List ℕ) → Bytes b → (n : ℕ) → Bytes (drop n b)
 bytes-from b h n i = rw (getD-drop n b i 0) (h (n + i))
 
 -- one part more

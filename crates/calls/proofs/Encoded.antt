@@ -16,10 +16,11 @@ use Rattle.geometry.specs.declared.Size.{Size}
 use Rattle.geometry.specs.declared.OptionalSize.{OptionalSize}
 use Rattle.geometry.specs.declared.OptionalSize.the-variants.{Missing, Given}
 use Rattle.hex.specs.Hex.{sum, checks}
+use Rattle.hex.specs.Laws.{Bytes}
 use Rattle.calls.specs.declared.Call.{Call}
 use Rattle.calls.specs.declared.Call.the-variants.{Malformed, Load, Cut, Turn, Mirror, Back, ListPoints, Fit, Contents}
 use Rattle.calls.specs.Format.{ofLength, sizeAt, flags, modelLength, sidesAgree, optional, isLoad, loadOf, byCode, callOf, modelPart, blockPart, contentsPart}
-use Rattle.calls.specs.Laws.{fourBytes, sizeBytes, isGiven, flagByte, sidesOf, body, checkOf, checked, encoded, Number, SizeNumbers, Encodable, ReadBack, EncodedIsRead, Bytes, EncodedIsBytes}
+use Rattle.calls.specs.Laws.{fourBytes, sizeBytes, isGiven, flagByte, sidesOf, body, checkOf, checked, encoded, Number, SizeNumbers, Encodable, ReadBack, EncodedIsRead, EncodedIsBytes}
 use Rattle.calls.proofs.Laws as laws
 
 -- ---- the check

@@ -5,11 +5,12 @@ use mathlib.Core.Bool.{Bool, true, false, cond}
 use mathlib.Core.List.{List, [], _∷_, _++_}
 use mathlib.Core.Logic.{_⊎_}
 use mathlib.Core.Path.{_≡_}
-use lib.ListN.{length, getD}
+use lib.ListN.{length}
 use Rattle.geometry.specs.declared.Size.{Size}
 use Rattle.geometry.specs.declared.OptionalSize.{OptionalSize}
 use Rattle.geometry.specs.declared.OptionalSize.the-variants.{Missing, Given}
 use Rattle.hex.specs.Hex.{sum}
+use Rattle.hex.specs.Laws.{Bytes}
 use Rattle.calls.specs.declared.Call.{Call}
 use Rattle.calls.specs.declared.Call.the-variants.{Malformed, Load, Cut, Turn, Mirror, Back, ListPoints, Fit, Contents}
 use Rattle.calls.specs.Format.{callOf, modelPart, blockPart, contentsPart}
@@ -116,10 +117,7 @@ abbrev pub EncodedIsRead : Type 0
 EncodedIsRead =
     (call : Call) (model block : List ℕ) → Encodable call model block → ReadBack call model block (encoded call model block)
 
--- and is a line of bytes, where the model and the block are
-abbrev pub Bytes : List ℕ → Type 0
-Bytes b = (i : ℕ) → getD b i 0 < 256
-
+-- and is bytes, where the model and the block are
 abbrev pub EncodedIsBytes : Type 0
 EncodedIsBytes =
     (call : Call) (model block : List ℕ) → Encodable call model block → Bytes model → Bytes block

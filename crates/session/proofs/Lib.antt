@@ -1,3 +1,4 @@
 pub mod Claim
 pub mod Laws
+pub mod Spelled
 pub mod Texts
