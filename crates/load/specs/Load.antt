@@ -18,6 +18,7 @@ use Rattle.load.specs.declared.focus.Refusal.the-variants.{Unreadable, M
 use Rattle.load.specs.declared.focus.FocusAnswer.{FocusAnswer}
 use Rattle.load.specs.declared.focus.FocusAnswer.the-variants.{Placed, Refused}
 use Rattle.load.specs.declared.focus.FocusPoints.{FocusPoints}
+use Rattle.load.specs.declared.focus.Row.{Row}
 
 -- "the frame, points in order, primary, area mode and origin": the points are a list, the primary is an index into it
 pub record Focus : Type 0 where
@@ -69,6 +70,10 @@ noPoint =
 -- "39 places and a count": the points, and then places without one
 unfoldable pub places : List FocusPoint → List FocusPoint
 places ps = ps ++ replicate (39 - length ps) noPoint
+
+-- points in 39 places, and how many there are
+abbrev pub rowOf : List FocusPoint → Row
+rowOf ps = record { points = places ps; count = length ps }
 
 -- one point, the primary, as recorded
 abbrev pub alone : Size → FocusPoint → FocusAreaMode → Outcome Focus

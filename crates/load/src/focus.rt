@@ -42,6 +42,12 @@ pub struct FocusPoints {
     pub origin: FocusOrigin,
 }
 
+// Points in the first `count` of 39 places.
+pub struct Row {
+    pub points: [FocusPoint; 39],
+    pub count: usize,
+}
+
 // 39 places with no point in them.
 pub fn no_places() -> [FocusPoint; 39]
     ensures { λ r. ⌜ r ≡ replicate 39 noPoint ⌝ }

@@ -2,7 +2,6 @@
 use Prim.Native.Nat.{ℕ, suc, _-_, _/_, _%_, _^_}
 use mathlib.Core.Bool.{Bool, true, false, cond, _&&_, _||_}
 use mathlib.Core.List.{List, [], _∷_}
-use lib.ListN.{length}
 use lib.Dec.{leb, eqb}
 use Rattle.tiff.specs.Outcome.{Outcome, refused, accepted}
 use Rattle.geometry.specs.declared.Size.{Size}
@@ -19,14 +18,13 @@ use Rattle.afinfo.specs.declared.NamedPoints.the-variants.{Unnamed, Named}
 use Rattle.fitting.specs.declared.focus.FocusPoint.{FocusPoint}
 use Rattle.fitting.specs.Fit.{pointFits, sameSize, by}
 use Rattle.load.specs.declared.focus.FocusOrigin.the-variants.{Table}
-use Rattle.load.specs.Load.{Focus, places}
+use Rattle.load.specs.Load.{Focus}
 use Rattle.named.specs.declared.points.TablePoint.{TablePoint}
 use Rattle.named.specs.declared.Window.{Window}
 use Rattle.named.specs.declared.PlacedFrame.{PlacedFrame}
 use Rattle.named.specs.declared.PlacedFrame.the-variants.{Unconfirmed, Confirmed}
 use Rattle.named.specs.declared.Placing.{Placing}
 use Rattle.named.specs.declared.Placing.the-variants.{Left, Listed}
-use Rattle.named.specs.declared.Listing.{Listing}
 use Rattle.load.specs.Sound.{Sound}
 use Rattle.named.specs.Points.{hasTable, points}
 
@@ -121,10 +119,6 @@ listed w primary mask = listedFrom w primary mask points
 -- the code's value for a point that is listed or is not
 abbrev pub ifListed : Bool → FocusPoint → Placing
 ifListed is p = cond is (Listed p) Left
-
--- the code's value for a list of points
-abbrev pub listingOf : List FocusPoint → Listing
-listingOf ps = record { points = places ps; count = length ps }
 
 -- whether a list has a point of a number
 unfoldable pub hasNumber : ℕ → List FocusPoint → Bool

@@ -10,13 +10,14 @@ use load::focus::FocusAnswer;
 use load::focus::FocusOrigin;
 use load::focus::FocusPoints;
 use load::focus::Refusal;
+use load::focus::Row;
 use reading::nikon::Crop;
 use reading::nikon::CropHiSpeed;
 ghost use mathlib.Core.Path.{_≡_};
 ghost use Prim.Native.Nat.{_≤_, _<_};
 ghost use lib.ListN.{take};
-ghost use Rattle.load.specs.Load.{laidOut};
-ghost use Rattle.named.specs.Named.{samePlace, pictureIs, onCrop, uncropped, frameMeans, placedFrame, marked, isNamed, fitsWindow, lessOrigin, isListed, ifListed, listed, listingOf, indexOf, placedIn, windowOf};
+ghost use Rattle.load.specs.Load.{laidOut, rowOf};
+ghost use Rattle.named.specs.Named.{samePlace, pictureIs, onCrop, uncropped, frameMeans, placedFrame, marked, isNamed, fitsWindow, lessOrigin, isListed, ifListed, listed, indexOf, placedIn, windowOf};
 ghost use Rattle.tiff.specs.Outcome.{accepted};
 
 pub mod points; // points/mod.rs and nikon_d600.rs: the table of the body's points
@@ -195,15 +196,9 @@ fn placed_point(point: TablePoint, window: Window, primary: u32, mask: u64) -> P
     less_origin(point, window)
 }
 
-// Points in the first `count` of 39 places.
-struct Listing {
-    points: [FocusPoint; 39],
-    count: usize,
-}
-
 // The points of the table that the record names and that fit, in table order.
-fn listed_points(window: Window, primary: u32, mask: u64) -> Listing
-    ensures { λ r. ⌜ r ≡ listingOf (listed window primary mask) ⌝ }
+fn listed_points(window: Window, primary: u32, mask: u64) -> Row
+    ensures { λ r. ⌜ r ≡ rowOf (listed window primary mask) ⌝ }
 {
     let table = crate::points::table();
     let mut points = load::focus::no_places();
@@ -220,7 +215,7 @@ fn listed_points(window: Window, primary: u32, mask: u64) -> Listing
         }
         i += 1;
     }
-    Listing { points, count }
+    Row { points, count }
 }
 
 // The index of the first of `count` points that has a number, or `count` where none has it.

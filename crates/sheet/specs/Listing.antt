@@ -16,7 +16,6 @@ use Rattle.listing.specs.declared.Listing.{Listing}
 use Rattle.listing.specs.declared.ListAnswer.{ListAnswer}
 use Rattle.listing.specs.declared.ListAnswer.the-variants.{Empty, ZeroBox, Short, Listed}
 use Rattle.sheet.specs.declared.list.Present.{Present}
-use Rattle.sheet.specs.declared.list.Row.{Row}
 use Rattle.sheet.specs.Sheet.{usable, placedAt, presentFrame}
 
 abbrev pub ifListed : Placed → List FocusPoint
@@ -38,10 +37,6 @@ listCount s = length (listed s)
 -- "the primary's index its place among them"
 unfoldable pub listIndex : Sheet → ℕ
 listIndex s = length (listing s (s .primary))
-
--- points in 39 places, and how many there are
-abbrev pub rowOf : List FocusPoint → Row
-rowOf ps = record { points = places ps; count = length ps }
 
 -- the code's value for what is listed
 unfoldable pub presentOf : Sheet → Present

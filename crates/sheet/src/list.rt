@@ -5,21 +5,16 @@ use fitting::focus::FocusPoint;
 use geometry::Size;
 use listing::ListAnswer;
 use listing::Listing;
-use load::focus::FocusOrigin;
+use load::focus::Row;
 ghost use mathlib.Core.Path.{_≡_};
 ghost use mathlib.Core.List.{[], _++_};
 ghost use Prim.Native.Nat.{_+_, _<_, _≤_};
 ghost use lib.ListN.{length, take, drop};
-ghost use Rattle.sheet.specs.Listing.{rowOf, listing, presentOf, scaledAll, listAnswer, listBuffer, fitAnswer, fitBuffer};
-
-// Points in 39 places, and how many there are.
-pub struct Row {
-    pub points: [FocusPoint; 39],
-    pub count: usize,
-}
+ghost use Rattle.load.specs.Load.{rowOf};
+ghost use Rattle.sheet.specs.Listing.{listing, presentOf, scaledAll, listAnswer, listBuffer, fitAnswer, fitBuffer};
 
 // The listed points in 39 places, how many there are, the primary's index among them, and their frame.
-pub struct Present {
+struct Present {
     pub frame: Size,
     pub points: [FocusPoint; 39],
     pub count: usize,

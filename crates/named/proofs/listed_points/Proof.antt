@@ -15,10 +15,10 @@ use Rattle.named.specs.declared.points.TablePoint.{TablePoint}
 use Rattle.named.specs.declared.Window.{Window}
 use Rattle.named.specs.declared.Placing.{Placing}
 use Rattle.named.specs.declared.Placing.the-variants.{Left, Listed}
-use Rattle.named.specs.declared.Listing.{Listing}
-use Rattle.load.specs.Load.{noPoint, places}
+use Rattle.load.specs.declared.focus.Row.{Row}
+use Rattle.load.specs.Load.{noPoint, places, rowOf}
 use Rattle.named.specs.Points.{points as table, noTablePoint}
-use Rattle.named.specs.Named.{lessOrigin, isListed, ifListed, listedFrom, listed, listingOf}
+use Rattle.named.specs.Named.{lessOrigin, isListed, ifListed, listedFrom, listed}
 use Rattle.named.proofs.Table.{number-at}
 use borrow.Author.Needs.{needs}
 use Rattle.named.proofs.listed_points.Statement.{statement}
@@ -65,7 +65,7 @@ unfolding listedFrom
 no-rows w primary mask = refl
 
 end : (w : Window) (primary mask : ℕ) (ps : List FocusPoint) (n i : ℕ) → i ≡ 39 → Going w primary mask ps n i →
-    _≡_ {A = Listing} (record { points = ps; count = n }) (listingOf (listed w primary mask))
+    _≡_ {A = Row} (record { points = ps; count = n }) (rowOf (listed w primary mask))
 unfolding places
 end w primary mask ps n i e k =
     let f = finished 39 noPoint (listed w primary mask) ps n (rw (e, no-rows w primary mask) at k) in

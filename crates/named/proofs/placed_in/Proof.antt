@@ -12,18 +12,18 @@ use Rattle.load.specs.declared.focus.Refusal.the-variants.{Unnamed}
 use Rattle.load.specs.declared.focus.FocusAnswer.the-variants.{Placed}
 use Rattle.load.specs.declared.focus.FocusPoints.{FocusPoints}
 use Rattle.named.specs.declared.Window.{Window}
-use Rattle.named.specs.declared.Listing.{Listing}
-use Rattle.load.specs.Load.{noPoint, places, refusalOf, refusedBy, laidOut}
+use Rattle.load.specs.declared.focus.Row.{Row}
+use Rattle.load.specs.Load.{noPoint, places, refusalOf, refusedBy, laidOut, rowOf}
 use Rattle.named.specs.Points.{points as table}
-use Rattle.named.specs.Named.{listed, listingOf, hasNumber, indexOf, windowFocus, placedIn}
+use Rattle.named.specs.Named.{listed, hasNumber, indexOf, windowFocus, placedIn}
 use Rattle.named.proofs.Listed.{present, absent, listed-room}
 use borrow.Author.Needs.{needs}
 use Rattle.named.proofs.placed_in.Statement.{statement}
 use Rattle.named.proofs.placed_in.Tie as tie
 
-module _ (w : Window) (primary mask : ℕ) (mode : FocusAreaMode) (l : Listing) (el : l ≡ listingOf (listed w primary mask)) where
+module _ (w : Window) (primary mask : ℕ) (mode : FocusAreaMode) (l : Row) (el : l ≡ rowOf (listed w primary mask)) where
   counted : l .count ≡ length (listed w primary mask)
-  counted = ap (λ (x : Listing). x .count) el
+  counted = ap (λ (x : Row). x .count) el
 
   count-fits : l .count ≤ 39
   count-fits =

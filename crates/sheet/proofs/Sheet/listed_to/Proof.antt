@@ -6,7 +6,7 @@ use native.Mathlib.Omega.{arith}
 use lib.ListN.{length}
 use Rattle.load.specs.Load.{places}
 use Rattle.edits.proofs.Most.{all-held}
-use Rattle.sheet.specs.declared.list.Row.{Row}
+use Rattle.load.specs.declared.focus.Row.{Row}
 use Rattle.sheet.specs.Sheet.{placedAt}
 use Rattle.sheet.specs.Listing.{listing}
 use Rattle.sheet.proofs.Listed.{has-room, one-in, none-in, row-done}

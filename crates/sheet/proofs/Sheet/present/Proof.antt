@@ -3,10 +3,11 @@ use mathlib.Core.Path.{_≡_}
 use native.Mathlib.Omega.{arith}
 use Rattle.edits.specs.declared.Placed.{Placed}
 use Rattle.sheet.specs.declared.Sheet.{Sheet}
-use Rattle.sheet.specs.declared.list.Row.{Row}
+use Rattle.load.specs.declared.focus.Row.{Row}
 use Rattle.sheet.specs.declared.list.Present.{Present}
 use Rattle.sheet.specs.Sheet.{placedAt, presentFrame}
-use Rattle.sheet.specs.Listing.{rowOf, listing, listed, listCount, listIndex, presentOf}
+use Rattle.load.specs.Load.{rowOf}
+use Rattle.sheet.specs.Listing.{listing, listed, listCount, listIndex, presentOf}
 use borrow.Author.Needs.{needs}
 use Rattle.sheet.proofs.Sheet.present.Statement.{statement}
 use Rattle.sheet.proofs.Sheet.present.Tie as tie
