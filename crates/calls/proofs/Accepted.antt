@@ -14,7 +14,7 @@ use borrow.Author.Tests.{leb-true, eqb-true}
 use Rattle.numbers.specs.Numbers.{u16Of, u32Of}
 use Rattle.numbers.specs.declared.io.ByteOrder.the-variants.{Big}
 use Rattle.geometry.specs.declared.Size.{Size}
-use Rattle.text.proofs.Lists.{by-cond, and-both}
+use Rattle.laws.proofs.Tests.{by-cond, both}
 use Rattle.hex.specs.Hex.{sum, checks}
 use Rattle.hex.specs.Laws.{Bytes}
 use Rattle.calls.specs.declared.Call.{Call}
@@ -118,7 +118,7 @@ sides-are : (g : Bool) (s : Size) → sidesAgree g s ≡ true → sidesOf (optio
 unfolding sidesAgree optional
 sides-are true s e = refl
 sides-are false s e =
-    let z = and-both (eqb (s .width) 0) (eqb (s .height) 0) e in
+    let z = both (eqb (s .width) 0) (eqb (s .height) 0) e in
     no-sides (s .width) (s .height) (eqb-true (s .width) 0 (z .0)) (eqb-true (s .height) 0 (z .1))
 
 given-is : (g : Bool) (s : Size) → isGiven (optional g s) ≡ g
@@ -249,9 +249,9 @@ module _ (b : List ℕ) (h : Bytes b) (right : checks b ≡ true) where
   load c =
       if-so b (isLoad b)
       (λ e.
-      let x = and-both (leb (20 + modelLength b) (length b)) _ e in
-      let y = and-both (leb (flags b) 3) _ (x .1) in
-      let z = and-both (sidesAgree (hasRaw b) (sizeAt b 2)) _ (y .1) in
+      let x = both (leb (20 + modelLength b) (length b)) _ e in
+      let y = both (leb (flags b) 3) _ (x .1) in
+      let z = both (sidesAgree (hasRaw b) (sizeAt b 2)) _ (y .1) in
       load-encodes c (leb-true (20 + modelLength b) (length b) (x .0)) (leb-true (flags b) 3 (y .0)) (z .0) (z .1))
 
   -- ---- every code

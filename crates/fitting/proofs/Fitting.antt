@@ -9,7 +9,7 @@ use borrow.Author.Tests.{le-leb, leb-true, ne-eqb, eqb-false, not-true}
 use Rattle.geometry.specs.declared.Size.{Size}
 use Rattle.geometry.specs.declared.Point.{Point}
 use Rattle.fitting.specs.Fit.{halfUp, axisFits, hasZeroSide, centerLiesOn, areaFits, noArea, areaIfAnyFits, liesOn, pointFits}
-use Rattle.fitting.proofs.Booleans.{both, and-of, neither, or-map}
+use Rattle.laws.proofs.Tests.{both, and-of, neither, or-map}
 use Rattle.fitting.specs.Laws.{OnFrame, AxisMirrored, FitsOnFrame, FitsMirrored, swapped, FitsSwapped}
 
 pub some-width : (s : Size) → hasZeroSide s ≡ false → s .width ≡ 0 → ⊥

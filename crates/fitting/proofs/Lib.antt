@@ -1,4 +1,3 @@
-pub mod Booleans
 pub mod Fitting
 pub mod Scaling
 pub mod Scaled

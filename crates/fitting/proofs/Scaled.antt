@@ -10,7 +10,7 @@ use Rattle.fitting.specs.declared.focus.FocusPoint.{FocusPoint}
 use Rattle.fitting.specs.Fit.{axisFits, hasZeroSide, areaFits, noArea, areaIfAnyFits, pointFits}
 use Rattle.fitting.specs.Scale.{scaleOf, scaledSide, scaledCenter, scaledArea, keptArea, scaledSize, scaledPoint}
 use Rattle.fitting.specs.Laws.{OnFrame, ScaledFits, ScaledNear}
-use Rattle.fitting.proofs.Booleans.{or-first, or-second}
+use Rattle.laws.proofs.Tests.{or-first, or-second}
 use Rattle.fitting.proofs.Fitting.{some-width, some-height, on-area, lies-of, fits-on-frame}
 use Rattle.fitting.proofs.Scaling.{scales-inside, scales-to-nearest, trim-fits}
 

@@ -9,7 +9,7 @@ use lib.Dec.{ltb}
 use lib.ListN.{length}
 use native.Mathlib.Omega.{arith}
 use borrow.Author.Tests.{le-ltb}
-use Rattle.text.proofs.Lists.{by-bool}
+use Rattle.laws.proofs.Tests.{by-bool}
 use Rattle.tiff.specs.Outcome.{Outcome, refused, accepted}
 use Rattle.placing.specs.Focus.{focusOf}
 use Rattle.load.specs.Load.{Focus}

@@ -6,7 +6,7 @@ use mathlib.Core.Logic.{⊎-elim}
 use mathlib.Core.Path.{_≡_, sym, _∙_}
 use lib.ListN.{length}
 use native.Mathlib.Omega.{arith}
-use Rattle.text.proofs.Lists.{by-bool}
+use Rattle.laws.proofs.Tests.{by-bool}
 use Rattle.script.specs.declared.Answered.{Answered}
 use Rattle.script.specs.declared.Answered.the-variants.{Short, Written}
 use Rattle.script.specs.Script.{hasRoom, answeredWith, bufferWith}

@@ -10,7 +10,7 @@ use lib.ListN.{getD, length, take, drop, replicate, length-append, length-drop, 
 use lib.Seq.{take-at, drop-at}
 use native.Mathlib.Omega.{arith}
 use borrow.Author.Tests.{ltb-false}
-use Rattle.text.proofs.Lists.{by-bool}
+use Rattle.laws.proofs.Tests.{by-bool}
 use Rattle.tiff.specs.Outcome.{Outcome, refused, accepted}
 use Rattle.tiff.specs.Block.{blockOf}
 use Rattle.reading.specs.Contents.{Holds, keptTags, listed, ContentsOf, contentsIn, contentsOf}

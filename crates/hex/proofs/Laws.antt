@@ -12,14 +12,15 @@ use native.Mathlib.Omega.{arith}
 use native.Mathlib.Nat.{zero-add}
 use native.Mathlib.Numerals.{add-one}
 use borrow.Author.Tests.{lt-ltb, le-ltb, le-leb, lt-leb, leb-true, eq-eqb, ne-eqb, not-true, not-false}
-use Rattle.text.proofs.Lists.{and-both, by-order, sets-append}
+use Rattle.laws.proofs.Tests.{both, by-order}
+use Rattle.laws.proofs.Lists.{sets-append}
 use Rattle.hex.specs.declared.Decoded.the-variants.{Malformed, Bytes}
 use Rattle.hex.specs.Hex.{within, digitOf, allDigits, wellFormed, halfOf, bytesOf, decodedOf, bufferOf, sum}
 
 -- ---- a digit
 -- a character within a range is not below it
 pub within-low : (low high c : ℕ) (r : Bool) → r ≡ within low high c → r ≡ true → low ≤ c
-within-low low high c r e h = leb-true low c (and-both _ _ (sym e ∙ h) .0)
+within-low low high c r e h = leb-true low c (both _ _ (sym e ∙ h) .0)
 
 module _ (c : ℕ) (r : Bool) (er : r ≡ within 48 57 c) where
   pub digit-decimal : r ≡ true → c - 48 ≡ digitOf c

@@ -10,7 +10,7 @@ use lib.Dec.{leb, eqb}
 use lib.ListN.{length, length-map}
 use native.Mathlib.Omega.{arith}
 use borrow.Author.Tests.{lt-ltb, le-ltb, le-leb, lt-leb, ltb-true, leb-true, eqb-true}
-use Rattle.text.proofs.Lists.{by-cond, and-both, by-order}
+use Rattle.laws.proofs.Tests.{by-cond, both, by-order}
 use Rattle.hex.specs.Hex.{within, digitOf, isDigit, allDigits, wellFormed, halfOf, bytesOf}
 use Rattle.hex.specs.Laws.{Bytes, digitFor, lineOf, WrittenIsRead, upper, upperLine, EitherCase, ReadIsBytes, ReadIsWritten}
 use Rattle.hex.proofs.Laws.{half-in, well-digits}
@@ -49,7 +49,7 @@ module _ (c : ℕ) where
 
 bounds : (low high c : ℕ) → within low high c ≡ true → (low ≤ c) × (c ≤ high)
 bounds low high c e =
-    let z = and-both (leb low c) (leb c high) e in
+    let z = both (leb low c) (leb c high) e in
     (leb-true low c (z .0), leb-true c high (z .1))
 
 -- ---- a digit of four bits
@@ -194,8 +194,8 @@ unfolding lineOf bytesOf allDigits
 line-again [] even h = refl
 line-again (a ∷ []) even h = absurd (omega arith)
 line-again (a ∷ b ∷ line) even h =
-    let y = and-both (isDigit a) (isDigit b && allDigits line) h in
-    let z = and-both (isDigit b) (allDigits line) (y .1) in
+    let y = both (isDigit a) (isDigit b && allDigits line) h in
+    let z = both (isDigit b) (allDigits line) (y .1) in
     let high : (16 * halfOf a + halfOf b) / 16 ≡ halfOf a = omega (arith, half-small a, half-small b) in
     let low : (16 * halfOf a + halfOf b) % 16 ≡ halfOf b = omega (arith, half-small a, half-small b) in
     rw (high, low, digit-of-half a (y .0), digit-of-half b (z .0), ← line-again line (omega arith) (z .1))
@@ -203,7 +203,7 @@ line-again (a ∷ b ∷ line) even h =
 pub read-is-written : ReadIsWritten
 unfolding wellFormed
 read-is-written line h =
-    let x = and-both (not (eqb (length line) 0)) _ h in
-    let y = and-both (leb (length line) 4096) _ (x .1) in
-    let z = and-both (eqb (length line % 2) 0) (allDigits line) (y .1) in
+    let x = both (not (eqb (length line) 0)) _ h in
+    let y = both (leb (length line) 4096) _ (x .1) in
+    let z = both (eqb (length line % 2) 0) (allDigits line) (y .1) in
     line-again line (eqb-true (length line % 2) 0 (z .0)) (z .1)

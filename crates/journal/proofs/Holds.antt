@@ -14,7 +14,7 @@ use Rattle.tiff.specs.Outcome.{Outcome, refused, accepted}
 use Rattle.geometry.specs.declared.Size.{Size}
 use Rattle.fitting.specs.declared.focus.FocusPoint.{FocusPoint}
 use Rattle.fitting.specs.Fit.{pointFits}
-use Rattle.fitting.proofs.Booleans.{both}
+use Rattle.laws.proofs.Tests.{both}
 use Rattle.fitting.proofs.Fitting.{fits-mirrored, fits-swapped}
 use Rattle.placing.specs.Focus.{focusOf}
 use Rattle.load.specs.Load.{Focus, noPoint}

@@ -15,7 +15,7 @@ use Rattle.geometry.specs.declared.Size.{Size}
 use Rattle.geometry.specs.declared.OptionalSize.{OptionalSize}
 use Rattle.fitting.specs.declared.focus.FocusPoint.{FocusPoint}
 use Rattle.fitting.specs.Fit.{hasZeroSide}
-use Rattle.fitting.proofs.Booleans.{neither, or-first, or-second}
+use Rattle.laws.proofs.Tests.{neither, or-first, or-second}
 use Rattle.placing.specs.Focus.{focusOf}
 use Rattle.load.specs.Load.{Focus}
 use Rattle.journal.specs.Journal.{Change, cut, turn, mirror, Journal, empty, holds, isListed, presentFrame, listing, primaryAfter, fitted, Answer, no, ok, ended, isBadCut, cutRefusal, changeRefusal, backRefusal, journalLoad, journalChange, journalBack, head, numbers, written, journalList, journalFit}

@@ -1,19 +1,15 @@
 -- A placed frame is one of the three windows, or refused by 6: what holds of these holds of every placed frame. The idea: a test picks
 -- one of two. Assumes nothing.
-use mathlib.Core.Bool.{Bool, true, false, cond, _&&_}
+use mathlib.Core.Bool.{_&&_}
 use lib.Dec.{eqb}
 use Rattle.tiff.specs.Outcome.{Outcome, refused, accepted}
 use Rattle.geometry.specs.declared.OptionalSize.{OptionalSize}
 use Rattle.reading.specs.declared.nikon.Crop.{Crop}
 use Rattle.reading.specs.declared.nikon.Crop.the-variants.{Unrecorded, Recorded}
+use Rattle.laws.proofs.Tests.{either}
 use Rattle.named.specs.declared.Window.{Window}
 use Rattle.fitting.specs.Fit.{by, sameSize}
 use Rattle.named.specs.Named.{whole, dx, medium, samePlace, givenAs, noneOr, onCrop, uncropped, placedFrame}
-
--- what holds of both holds of the one that a test picks
-pub either : {A : Type 0} (P : A → Type 0) (b : Bool) (x y : A) → P x → P y → P (cond b x y)
-either P true x y p q = p
-either P false x y p q = q
 
 module _ (P : Outcome Window → Type 0) (on-whole : P (accepted whole)) (on-medium : P (accepted medium)) (on-dx : P (accepted dx))
     (on-six : P (refused 6)) where

@@ -7,7 +7,7 @@ use mathlib.Core.Path.{_≡_, refl, ap, sym}
 use native.Mathlib.Omega.{arith}
 use lib.Dec.{leb, eqb}
 use lib.ListN.{length}
-use Rattle.fitting.proofs.Booleans.{both}
+use Rattle.laws.proofs.Tests.{both}
 use Rattle.fitting.specs.Fit.{pointFits}
 use Rattle.fitting.specs.declared.focus.FocusPoint.{FocusPoint}
 use Rattle.named.specs.declared.points.TablePoint.{TablePoint}

@@ -13,13 +13,13 @@ use Rattle.numbers.specs.Bytes.{same}
 use Rattle.geometry.specs.declared.OptionalSize.{OptionalSize}
 use Rattle.afinfo.specs.declared.focus.FocusAreaMode.{FocusAreaMode}
 use Rattle.reading.specs.declared.nikon.Crop.{Crop}
-use Rattle.fitting.proofs.Booleans.{or-second}
+use Rattle.laws.proofs.Tests.{or-second, either}
 use Rattle.named.specs.declared.points.TablePoint.{TablePoint}
 use Rattle.named.specs.declared.Window.{Window}
 use Rattle.named.specs.Points.{hasTable, points, noTablePoint}
 use Rattle.named.specs.Named.{lessOrigin, fitsWindow, isNamed, isListed, placedFrame, listedFrom, hasNumber, placedIn, windowOf, namedOutcome}
 use Rattle.named.specs.Table.{PlacedByFrame, NoPrimary}
-use Rattle.named.proofs.Frames.{either, by-frame}
+use Rattle.named.proofs.Frames.{by-frame}
 use Rattle.named.proofs.Table.{number-is, fits-at}
 
 module _ (w : Window) (primary mask : ℕ) where

@@ -9,7 +9,7 @@ use native.Mathlib.Omega.{arith}
 use lib.Dec.{eqb}
 use lib.ListN.{length, getD}
 use borrow.Author.Tests.{eqb-true}
-use Rattle.fitting.proofs.Booleans.{both}
+use Rattle.laws.proofs.Tests.{both}
 use Rattle.fitting.specs.Fit.{axisFits, hasZeroSide, centerLiesOn, areaFits, noArea, liesOn, pointFits}
 use Rattle.named.specs.declared.points.TablePoint.{TablePoint}
 use Rattle.named.specs.Points.{points, noTablePoint}

@@ -16,7 +16,7 @@ use Rattle.reading.specs.declared.nikon.CropArea.{CropArea}
 use Rattle.afinfo.specs.declared.FocusRecord.{FocusRecord}
 use Rattle.recorded.specs.Recorded.{positionOf, Placement}
 use Rattle.placing.specs.Focus.{andThen, refusedToo, pointOf, recordsPosition, placedOf, focusIn, focusOf, LoadSound}
-use Rattle.named.proofs.Frames.{either}
+use Rattle.laws.proofs.Tests.{either}
 use Rattle.recorded.proofs.Fitting.{Fits, position-fits}
 use Rattle.named.proofs.Sound.{named-sound}
 

@@ -11,7 +11,7 @@ use lib.Seq.{drop-drop}
 use native.Mathlib.Omega.{arith}
 use borrow.Author.Tests.{lt-ltb, le-ltb, le-leb, lt-leb}
 use Rattle.text.specs.Put.{Put}
-use Rattle.text.proofs.Lists.{by-order}
+use Rattle.laws.proofs.Tests.{by-order}
 use Rattle.text.proofs.Laws as text
 use Rattle.sheet.specs.declared.Sheet.{Sheet}
 use Rattle.sheet.specs.Sheet.{freshSheet}

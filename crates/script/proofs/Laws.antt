@@ -12,7 +12,7 @@ use lib.Seq.{drop-cons}
 use native.Mathlib.Omega.{arith}
 use native.Mathlib.Numerals.{add-one}
 use borrow.Author.Tests.{eq-eqb, ne-eqb, eqb-true, eqb-false}
-use Rattle.text.proofs.Lists.{by-bool, by-cond, by-order}
+use Rattle.laws.proofs.Tests.{by-bool, by-cond, by-order}
 use Rattle.script.specs.Script.{linesFrom, linesOf, joined}
 use Rattle.script.specs.Parts.{feedAt}
 use Rattle.script.specs.Laws.{NoFeed, NoFeeds, fed, EmptyScript, FedLines, LastUnfed, LinesUnfed, LinesAreScript}

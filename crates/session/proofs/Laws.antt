@@ -7,7 +7,7 @@ use mathlib.Core.Bool.{true, false}
 use lib.ListN.{length, take, drop}
 use lib.Seq.{sets, sets-eq, length-sets, take-at, take-all, length-take-le}
 use native.Mathlib.Omega.{arith}
-use Rattle.text.proofs.Lists.{by-bool, by-order}
+use Rattle.laws.proofs.Tests.{by-bool, by-order}
 use Rattle.hex.specs.Hex.{wellFormed, bytesOf, decodedOf, bufferOf}
 use Rattle.hex.specs.declared.Decoded.{Decoded}
 use Rattle.hex.specs.declared.Decoded.the-variants.{Malformed, Bytes}

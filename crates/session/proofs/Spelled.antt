@@ -8,7 +8,7 @@ use mathlib.Core.Logic.{_⊎_, inl, inr, ⊎-elim}
 use mathlib.Core.Path.{_≡_, refl, sym, ap, ap₂, _∙_}
 use lib.ListN.{length, take, drop, length-append}
 use native.Mathlib.Omega.{arith}
-use Rattle.text.proofs.Lists.{by-bool}
+use Rattle.laws.proofs.Tests.{by-bool}
 use Rattle.hex.specs.Hex.{wellFormed, bytesOf}
 use Rattle.hex.specs.Laws.{Bytes, lineOf, ReadsAs}
 use Rattle.hex.proofs.Laws.{bytes-long, well-short}

@@ -11,7 +11,7 @@ use borrow.Author.Tests.{eq-eqb, ne-eqb}
 use Rattle.answers.specs.Answers.{okText, noText, tagsText, headText, pointsText}
 use Rattle.text.specs.Put.{Put}
 use Rattle.text.proofs.Laws.{Puts, _▹_, at-most}
-use Rattle.text.proofs.Lists.{by-cond}
+use Rattle.laws.proofs.Tests.{by-cond}
 use Rattle.tiff.specs.Outcome.{Outcome, refused, accepted}
 use Rattle.tiff.specs.Block.{blockOf, findOf, isKept}
 use Rattle.afinfo.specs.Focus.{modeNumber}

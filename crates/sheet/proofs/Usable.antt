@@ -1,18 +1,14 @@
 -- A usable sheet's counts, and the refusals that cut, turn and mirror share, by the tests of the code. Assumes nothing.
 use Prim.Native.Nat.{_<_, _≤_}
-use mathlib.Core.Bool.{Bool, true, false, _&&_, not, false≢true}
-use mathlib.Core.Path.{_≡_, refl, sym, _∙_}
+use mathlib.Core.Bool.{Bool, true, false, not}
+use mathlib.Core.Path.{_≡_, sym, _∙_}
 use lib.Dec.{leb, ltb}
 use borrow.Author.Tests.{ltb-true, lt-ltb, le-ltb, leb-true, not-true, not-false}
+use Rattle.laws.proofs.Tests.{both}
 use Rattle.edits.specs.declared.EditAnswer.the-variants.{Empty, Full}
 use Rattle.sheet.specs.declared.Sheet.{Sheet}
 use Rattle.sheet.specs.declared.Edited.{Edited}
 use Rattle.sheet.specs.Sheet.{edited, usable, ifOpen}
-
--- a conjunction that holds, in both parts
-and-both : (a b : Bool) → (a && b) ≡ true → (a ≡ true) × (b ≡ true)
-and-both true b h = (refl, h)
-and-both false b h = absurd (false≢true h)
 
 -- what the test usable tells
 pub record Counts (s : Sheet) : Type 0 where
@@ -23,9 +19,9 @@ pub record Counts (s : Sheet) : Type 0 where
 pub usable-told : (s : Sheet) → usable s ≡ true → Counts s
 unfolding usable
 usable-told s h =
-    let a = and-both (s .loaded) _ h in
-    let b = and-both (leb (s .count) 39) _ (a .1) in
-    let d = and-both (ltb (s .primary) (s .count)) _ (b .1) in
+    let a = both (s .loaded) _ h in
+    let b = both (leb (s .count) 39) _ (a .1) in
+    let d = both (ltb (s .primary) (s .count)) _ (b .1) in
     record {
       points = leb-true (s .count) 39 (b .0);
       primary = ltb-true (s .primary) (s .count) (d .0);

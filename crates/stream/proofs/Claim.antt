@@ -12,7 +12,7 @@ use lib.ListN.{length, take, length-take}
 use lib.Seq.{take-all, take-append-le, length-take-le, take-nil}
 use native.Mathlib.Omega.{arith}
 use borrow.Author.Tests.{ne-eqb}
-use Rattle.text.proofs.Lists.{by-bool, by-order}
+use Rattle.laws.proofs.Tests.{by-bool, by-order}
 use Rattle.sheet.specs.declared.Sheet.{Sheet}
 use Rattle.sheet.specs.Sheet.{freshSheet}
 use Rattle.session.specs.Lines.{spelled, sheetText, sheetNext}

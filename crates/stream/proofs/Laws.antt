@@ -15,7 +15,7 @@ use native.Mathlib.Nat.{add-zero, zero-add, add-assoc}
 use native.Mathlib.Numerals.{add-one}
 use borrow.Author.Tests.{ne-eqb, leb-true, leb-false, le-leb, lt-leb, not-true, not-false}
 use Rattle.text.specs.Put.{Put}
-use Rattle.text.proofs.Lists.{by-order}
+use Rattle.laws.proofs.Tests.{by-order}
 use Rattle.text.proofs.Laws.{put-none, put-same, put-room, join}
 use Rattle.sheet.specs.declared.Sheet.{Sheet}
 use Rattle.session.specs.declared.Stepped.{Stepped}

@@ -9,7 +9,7 @@ use mathlib.Core.Logic.{⊎-elim}
 use lib.Dec.{eqb, leb}
 use lib.ListN.{length, set, length-set}
 use borrow.Author.Tests.{ne-eqb}
-use Rattle.text.proofs.Lists.{by-bool}
+use Rattle.laws.proofs.Tests.{by-bool}
 use Rattle.sheet.specs.declared.Sheet.{Sheet}
 use Rattle.session.specs.Lines.{spelled, sheetText, sheetNext, mostText}
 use Rattle.stream.specs.Stream.{kept, heldAfter, lineAfter, sheetAfter, textIn, usedIn, usedOf}

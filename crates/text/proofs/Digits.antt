@@ -10,7 +10,7 @@ use native.Mathlib.Omega.{arith}
 use borrow.Author.Tests.{lt-ltb, le-ltb}
 use Rattle.text.specs.Number.{lastDigit, digitsIn, digitsOf, readFrom, readOf}
 use Rattle.text.specs.Laws.{ReadsBack, IsDigit, DigitsOnly, NoLeadingZero, TenDigits}
-use Rattle.text.proofs.Lists.{by-order}
+use Rattle.laws.proofs.Tests.{by-order}
 
 stable : (k j n : ℕ) → n ≤ k → n ≤ j → digitsIn k n ≡ digitsIn j n
 unfolding digitsIn

@@ -11,7 +11,8 @@ use native.Mathlib.Omega.{arith}
 use native.Mathlib.Nat.{min-eq-left, min-eq-right, suc-mul}
 use native.Mathlib.Numerals.{add-one}
 use Rattle.text.specs.Put.{Put, capped}
-use Rattle.text.proofs.Lists.{by-order, sets-past, sets-append}
+use Rattle.laws.proofs.Tests.{by-order}
+use Rattle.laws.proofs.Lists.{sets-past, sets-append}
 
 -- a place past a buffer that a usize can count counts as any other
 sets-capped : (us o : List ℕ) (a : ℕ) → length o ≤ 18446744073709551615 → sets o (capped a) us ≡ sets o a us

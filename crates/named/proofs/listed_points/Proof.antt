@@ -9,7 +9,7 @@ use native.Mathlib.Numerals.{add-one}
 use native.Mathlib.Omega.{arith}
 use lib.ListN.{getD, drop, set, replicate}
 use lib.Seq.{drop-cons}
-use Rattle.tiff.proofs.Collect.{Held, stored, finished}
+use Rattle.laws.proofs.Collect.{Held, stored, finished}
 use Rattle.fitting.specs.declared.focus.FocusPoint.{FocusPoint}
 use Rattle.named.specs.declared.points.TablePoint.{TablePoint}
 use Rattle.named.specs.declared.Window.{Window}

@@ -9,7 +9,7 @@ use lib.ListN.{length}
 use lib.Seq.{sets, length-sets, length-take-le}
 use native.Mathlib.Omega.{arith}
 use borrow.Author.Tests.{leb-true}
-use Rattle.text.proofs.Lists.{by-bool}
+use Rattle.laws.proofs.Tests.{by-bool}
 use Rattle.script.specs.Script.{answeredWith, bufferWith, hasRoom}
 use Rattle.script.specs.declared.Answered.{Answered}
 use Rattle.script.specs.declared.Answered.the-variants.{Short, Written}

@@ -11,7 +11,7 @@ use lib.Seq.{drop-cons}
 use denote.Ref.{now}
 use Rattle.tiff.specs.Block.{findOf, isKept}
 use Rattle.reading.specs.Contents.{fourTags, keptAmong, keptTags, listed}
-use Rattle.tiff.proofs.Collect.{Held, stored, finished}
+use Rattle.laws.proofs.Collect.{Held, stored, finished}
 use Rattle.numbers.specs.declared.io.ByteOrder.{ByteOrder}
 use Rattle.reading.specs.declared.nikon.TagList.{TagList}
 use Rattle.reading.specs.declared.nikon.ContentsAnswer.the-variants.{Listed}
