@@ -1,14 +1,17 @@
 // The program: reads call lines from standard input, of any length and in any pieces, and writes the answers to standard output. What
-// has come is answered before more is read. No contract can say what is read or written: the answers are `stream`'s, and `stdout`
-// holds 01's whole case.
+// has come is answered before more is read. No contract can speak of a file descriptor: proved is what is made of the bytes of a read
+// (`after_read`); that `main` hands on what it has read, and that the answers are written, is tested (tools/pipe-test and
+// tools/reference/compare-lines run the program, and `stdout` holds 01's whole case).
 use libc::STDIN_FILENO;
 use libc::STDOUT_FILENO;
 use sheet::Sheet;
 use stream::Fed;
 ghost use mathlib.Core.Path.{_≡_};
-ghost use lib.ListN.{length};
+ghost use lib.ListN.{length, take};
+ghost use lib.Seq.{sets};
 ghost use Prim.Native.Nat.{_≤_};
 ghost use Rattle.session.specs.Lines.{mostText};
+ghost use Rattle.stream.specs.Stream.{lastText};
 ghost use Rattle.focusdesk.specs.Served.{Serves, ReadsOnce};
 
 // What a read leaves: the sheet, how much of a line is held, and whether there may be more to read and to write.
@@ -25,7 +28,8 @@ fn no_line() -> [u8; 4097]
     [0; 4097]
 }
 
-// Writes the first bytes of a buffer, and tells whether all of them went out.
+// Writes the first bytes of a buffer, and tells whether all of them went out. What is written rests on the tests: no contract says that
+// the callers hand over all of their answers, nor that a write has failed where `serve` stops.
 fn flush(out: &[u8], at: usize) -> bool
     requires { ⌜ at ≤ length (now out) ⌝ }
 {
@@ -65,20 +69,28 @@ fn serve(sheet: Sheet, line: &mut [u8], held: usize, input: &[u8], out: &mut [u8
     }
 }
 
-// The end of the input: answers the line that is held, if any.
+// The end of the input: answers the line that is held, if any, at the buffer's start, and writes that.
 fn finish(sheet: Sheet, line: &[u8], held: usize, out: &mut [u8])
     requires { ⌜ mostText ≤ length (now out) ⌝ }
+    ensures { λ _. ⌜ now (out .exit) ≡ sets (now (out .entry)) 0 (lastText sheet (take held (now (line .entry)))) ⌝ }
 {
     let at = stream::last(sheet, line, held, out, 0);
     flush(out, at);
 }
 
-// Reads once and answers what came. A read that a signal interrupts is tried again; any other that fails ends the program.
-fn read_once(sheet: Sheet, line: &mut [u8], held: usize, input: &mut [u8], out: &mut [u8]) -> After
+// Answers what came by a read: `got` is what it answered, and the bytes lie at the start of `input`. A read that a signal interrupts is
+// tried again; any other that fails ends the program, and so does the end of the input.
+fn after_read(
+    got: isize,
+    sheet: Sheet,
+    line: &mut [u8],
+    held: usize,
+    input: &[u8],
+    out: &mut [u8],
+) -> After
     requires { ⌜ mostText ≤ length (now out) ⌝ }
-    ensures { λ r. ⌜ ReadsOnce sheet (now (line .entry)) held (now (line .exit)) r ⌝ }
+    ensures { λ r. ⌜ ReadsOnce got sheet (now (line .entry)) held (now (input .entry)) (now (out .entry)) (now (line .exit)) (now (out .exit)) r ⌝ }
 {
-    let got = libc::read(STDIN_FILENO, input);
     if got < 0 {
         return After {
             sheet,
@@ -115,7 +127,8 @@ fn main() {
     let mut reads = u64::MAX;
     while reads > 0 {
         let before = after.sheet;
-        after = read_once(before, line, after.held, input, out);
+        let got = libc::read(STDIN_FILENO, input);
+        after = after_read(got, before, line, after.held, input, out);
         if !after.more {
             return;
         }

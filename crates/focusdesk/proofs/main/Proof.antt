@@ -3,14 +3,15 @@ use Rattle.focusdesk.proofs.Laws as laws
 use Rattle.focusdesk.proofs.Laws.{Running}
 use native.Mathlib.Omega.{arith}
 use borrow.Author.Needs.{needs}
-use Prim.Native.Nat.{_≤_}
+use Prim.Native.Nat.{ℕ, _≤_}
+use mathlib.Core.List.{List, []}
 use lib.ListN.{length}
 use Rattle.session.specs.Lines.{mostText}
 use Rattle.focusdesk.proofs.main.Statement.{statement}
 use Rattle.focusdesk.proofs.main.Tie as tie
 
 abbrev Inv-loop : tie.InvT-loop
-Inv-loop line₀ input₀ out₀ after₀ reads₀ line input out after reads = (mostText ≤ length out) × Running line after
+Inv-loop line₀ input₀ out₀ after₀ reads₀ line input out after reads = (all : List ℕ) × Running all line after × (mostText ≤ length out)
 
 abbrev μ-loop : tie.MeasureT-loop
 μ-loop line₀ input₀ out₀ after₀ reads₀ line input out after reads = reads
@@ -37,10 +38,13 @@ new-requires : tie.Need-new-requires Inv-loop μ-loop
 new-requires c κs = tt
 
 loop-holds : tie.Need-loop-holds Inv-loop μ-loop
-loop-holds c = (omega (arith, (c .before .before .large-buffer2 .ensures)), laws.running-none _ _ (c .new .ensures) (c .before .before .before .before .before .before .no-line .ensures))
+loop-holds c = ([], laws.running-none _ _ (c .new .ensures) (c .before .before .before .before .before .before .no-line .ensures), omega (arith, (c .before .before .large-buffer2 .ensures)))
 
-read-once-requires : tie.Need-read-once-requires Inv-loop μ-loop
-read-once-requires c κs = (c .before .before .before .before .before .loop .inv .0)
+read-requires : tie.Need-read-requires Inv-loop μ-loop
+read-requires c κs = tt
+
+after-read-requires : tie.Need-after-read-requires Inv-loop μ-loop
+after-read-requires c κs = (c .before .before .before .before .before .before .before .before .before .loop .inv .2)
 
 returns : tie.Need-returns Inv-loop μ-loop
 returns c = tt
@@ -52,7 +56,7 @@ loop-less : tie.Need-loop-less Inv-loop μ-loop
 loop-less c = omega arith
 
 loop-again : tie.Need-loop-again Inv-loop μ-loop
-loop-again c = (omega (arith, (c .before .before .before .before .before .before .before .before .before .before .before .before .before .before .loop .inv .0), (c .before .before .before .before .before .before .before .before .read-once .kept .1 .1 .1 .1)), laws.running-more ((c .before .before .before .before .before .before .before .before .before .before .before .before .before .before .loop .inv .1)) (c .before .before .before .before .before .before .before .before .read-once .ensures) (c .if1 .left))
+loop-again c = (_, laws.running-more _ _ _ _ _ _ (c .before .before .before .before .before .before .before .before .before .before .before .before .before .before .before .before .loop .inv .1) (c .before .before .before .before .before .before .after-read .ensures) (c .if1 .left), omega (arith, (c .before .before .before .before .before .before .before .before .before .before .before .before .before .before .before .before .loop .inv .2), (c .before .before .before .before .before .before .after-read .kept .1 .1 .1 .1 .1)))
 
 returns-2 : tie.Need-returns-2 Inv-loop μ-loop
 returns-2 c = tt
@@ -71,7 +75,8 @@ main-spec =
     slice-aggregate-out
     new-requires
     loop-holds
-    read-once-requires
+    read-requires
+    after-read-requires
     returns
     sub-reads
     loop-less

@@ -40,7 +40,7 @@ same-length-2 : tie.Need-same-length-2 Inv-loop μ-loop
 same-length-2 c = text.put-same ((c .before .before .before .before .before .before .before .before .feed .ensures .taken .put)) ∙ (c .before .before .before .before .before .before .before .before .before .before .before .before .before .before .loop .inv .1)
 
 returns : tie.Need-returns Inv-loop μ-loop
-returns c = laws.serves-not _ ((c .before .before .before .before .before .before .before .before .feed .ensures .taken .long) ∙ (c .before .before .before .before .before .before .before .before .before .before .before .before .before .before .loop .inv .0 .long))
+returns c = laws.serves-some _ _ (laws.serving-more _ _ (c .before .before .before .before .before .before .before .before .before .before .before .before .before .before .loop .inv .0) (c .before .before .before .before .before .before .before .before .feed .ensures)) (omega (arith, laws.serving-far _ _ (c .before .before .before .before .before .before .before .before .before .before .before .before .before .before .loop .inv .0) (c .before .before .before .before .before .before .before .before .before .before .before .before .before .loop-test .taken) (c .before .before .before .before .before .before .before .before .feed .ensures) .0))
 
 add-i : tie.Need-add-i Inv-loop μ-loop
 add-i c = omega (arith, (c .before .before .before .before .before .before .before .before .before .before .before .before .before .before .loop .inv .0 .counted), laws.serving-far _ _ ((c .before .before .before .before .before .before .before .before .before .before .before .before .before .before .loop .inv .0)) (c .before .before .before .before .before .before .before .before .before .before .before .before .before .loop-test .taken) (c .before .before .before .before .before .before .before .before .feed .ensures) .1)
