@@ -5,9 +5,8 @@ use mathlib.Core.List.{List}
 use lib.ListN.{length, length-append}
 use native.Mathlib.Omega.{arith}
 use Rattle.text.specs.Number.{digitsOf, pair}
-use Rattle.text.specs.Put.{Put}
+use Rattle.text.specs.Put.{Put, Puts}
 use Rattle.answers.specs.Answers.{feed}
-use Rattle.text.proofs.Laws.{Puts}
 
 -- a word and a number n, which is k
 pub numbered : {o o₁ : List ℕ} {a a₁ n k : ℕ} (w : List ℕ) → n ≡ k → (Put o a (pair w n) o₁ a₁) × (length (digitsOf n) ≤ 10)

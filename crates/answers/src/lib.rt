@@ -2,8 +2,8 @@
 // buffer's end is not put, but counted.
 ghost use Prim.Native.Nat.{_<_, _≤_, min};
 ghost use mathlib.Core.Path.{_≡_};
-ghost use lib.ListN.{length, getD};
-ghost use Rattle.text.specs.Put.{Put};
+ghost use lib.ListN.{getD};
+ghost use Rattle.text.specs.Put.{Put, Puts};
 ghost use Rattle.answers.specs.Answers.{okText, noText, nextAll, tagsText, headText, pointText, pointsText};
 
 // The line of a call that was accepted.
@@ -15,7 +15,7 @@ pub fn put_ok(out: &mut [u8], at: usize) -> usize
 
 // The line of a call that was refused with a number.
 pub fn put_no(out: &mut [u8], at: usize, n: u32) -> usize
-    ensures { λ r. ⌜ (Put (now (out .entry)) at (noText n) (now (out .exit)) r) × (length (noText n) ≤ 14) ⌝ }
+    ensures { λ r. ⌜ Puts (now (out .entry)) at (noText n) 14 (now (out .exit)) r ⌝ }
 {
     let next = text::put_pair(out, at, b"no ", n);
     text::put_byte(out, next, 10)
@@ -30,7 +30,7 @@ fn word_at(words: &[u32], i: usize) -> u32
 
 // The head line of a listing: width, height, points, primary, mode and origin, in this order.
 pub fn put_head(out: &mut [u8], at: usize, given: &[u32]) -> usize
-    ensures { λ r. ⌜ (Put (now (out .entry)) at (headText (now (given .entry))) (now (out .exit)) r) × (length (headText (now (given .entry))) ≤ 99) ⌝ }
+    ensures { λ r. ⌜ Puts (now (out .entry)) at (headText (now (given .entry))) 99 (now (out .exit)) r ⌝ }
 {
     let a = text::put_pair(out, at, b"frame ", word_at(given, 0));
     let b = text::put_pair(out, a, b" ", word_at(given, 1));
@@ -44,7 +44,7 @@ pub fn put_head(out: &mut [u8], at: usize, given: &[u32]) -> usize
 // The line of point i: its six numbers.
 fn put_point(out: &mut [u8], at: usize, words: &[u32], i: usize) -> usize
     requires { ⌜ i < 39 ⌝ }
-    ensures { λ r. ⌜ (Put (now (out .entry)) at (pointText (now (words .entry)) i) (now (out .exit)) r) × (length (pointText (now (words .entry)) i) ≤ 66) ⌝ }
+    ensures { λ r. ⌜ Puts (now (out .entry)) at (pointText (now (words .entry)) i) 66 (now (out .exit)) r ⌝ }
 {
     let w = i * 6;
     let a = text::put_number(out, at, word_at(words, w));
@@ -58,7 +58,7 @@ fn put_point(out: &mut [u8], at: usize, words: &[u32], i: usize) -> usize
 
 // The lines of the first points, 39 at the most.
 pub fn put_points(out: &mut [u8], at: usize, words: &[u32], count: usize) -> usize
-    ensures { λ r. ⌜ (Put (now (out .entry)) at (pointsText (now (words .entry)) (min count 39)) (now (out .exit)) r) × (length (pointsText (now (words .entry)) (min count 39)) ≤ 2574) ⌝ }
+    ensures { λ r. ⌜ Puts (now (out .entry)) at (pointsText (now (words .entry)) (min count 39)) 2574 (now (out .exit)) r ⌝ }
 {
     let n = text::smaller(count, 39);
     let mut next = at;
@@ -80,7 +80,7 @@ fn tag_at(tags: &[u16], i: usize) -> u16
 // The first tags, each after a space.
 fn put_each(out: &mut [u8], at: usize, tags: &[u16], n: usize) -> usize
     requires { ⌜ n ≤ 4 ⌝ }
-    ensures { λ r. ⌜ (Put (now (out .entry)) at (nextAll (now (tags .entry)) n) (now (out .exit)) r) × (length (nextAll (now (tags .entry)) n) ≤ 44) ⌝ }
+    ensures { λ r. ⌜ Puts (now (out .entry)) at (nextAll (now (tags .entry)) n) 44 (now (out .exit)) r ⌝ }
 {
     let mut after = at;
     let mut i: usize = 0;
@@ -93,7 +93,7 @@ fn put_each(out: &mut [u8], at: usize, tags: &[u16], n: usize) -> usize
 
 // The line of contents: how many tags there are, four at the most, and the tags.
 pub fn put_tags(out: &mut [u8], at: usize, tags: &[u16], count: usize) -> usize
-    ensures { λ r. ⌜ (Put (now (out .entry)) at (tagsText (min count 4) (now (tags .entry))) (now (out .exit)) r) × (length (tagsText (min count 4) (now (tags .entry))) ≤ 60) ⌝ }
+    ensures { λ r. ⌜ Puts (now (out .entry)) at (tagsText (min count 4) (now (tags .entry))) 60 (now (out .exit)) r ⌝ }
 {
     let n = text::smaller(count, 4);
     let a = text::put_pair(out, at, b"tags ", n as u32);

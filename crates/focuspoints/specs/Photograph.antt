@@ -3,6 +3,7 @@
 use Prim.Native.Nat.{ℕ, _+_, _*_}
 use mathlib.Core.Bool.{cond}
 use mathlib.Core.List.{List, [], _++_}
+use mathlib.Core.Path.{_≡_}
 use lib.Dec.{eqb}
 use lib.ListN.{length}
 use Rattle.tiff.specs.Outcome.{Outcome, refused, accepted}
@@ -33,3 +34,7 @@ photographNumber (accepted f) room = roomNumber (listingLength f) room
 unfoldable pub photographBuffer : Outcome Focus → List ℕ → List ℕ
 photographBuffer (refused n) out = out
 photographBuffer (accepted f) out = withNumbers (listingLength f) (listingOf f) out
+
+-- what the call returns and leaves, of what the load comes to
+abbrev pub Photographed : Outcome Focus → List ℕ → ℕ → List ℕ → Type 0
+Photographed load before r after = (r ≡ photographNumber load (length before)) × (after ≡ photographBuffer load before)

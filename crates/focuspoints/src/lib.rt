@@ -16,7 +16,7 @@ ghost use Rattle.reading.specs.Contents.{contentsOf};
 ghost use Rattle.placing.specs.Focus.{focusOf};
 ghost use Rattle.listing.specs.Listing.{over, headNumbers};
 ghost use Rattle.script.specs.Script.{scriptText, bufferWith};
-ghost use Rattle.focuspoints.specs.Photograph.{sizeOf, photographNumber, photographBuffer};
+ghost use Rattle.focuspoints.specs.Photograph.{sizeOf, Photographed};
 ghost use Rattle.focuspoints.specs.Script.{scriptLength};
 ghost use Rattle.focuspoints.specs.Contents.{contentsNumberOf, contentsBufferOf, Tells};
 ghost use Rattle.focuspoints.specs.Buffer.{roomNumber, withNumbers, laidNumbers};
@@ -87,7 +87,7 @@ pub extern "C" fn focuspoints_photograph(
     model: &[u8],
     out: &mut [u32],
 ) -> u32
-    ensures { λ r. ⌜ (r ≡ photographNumber (focusOf (now (block .entry)) (sizeOf «raw_given» «raw_width» «raw_height») (sizeOf «picture_given» «picture_width» «picture_height») (now (model .entry))) (length (now (out .entry)))) × (now (out .exit) ≡ photographBuffer (focusOf (now (block .entry)) (sizeOf «raw_given» «raw_width» «raw_height») (sizeOf «picture_given» «picture_width» «picture_height») (now (model .entry))) (now (out .entry))) ⌝ }
+    ensures { λ r. ⌜ Photographed (focusOf (now (block .entry)) (sizeOf «raw_given» «raw_width» «raw_height») (sizeOf «picture_given» «picture_width» «picture_height») (now (model .entry))) (now (out .entry)) r (now (out .exit)) ⌝ }
 {
     let raw = size_of(raw_given, raw_width, raw_height);
     let picture = size_of(picture_given, picture_width, picture_height);

@@ -9,8 +9,8 @@ use native.Mathlib.Nat.{min-eq-left}
 use native.Mathlib.Omega.{arith}
 use borrow.Author.Tests.{eq-eqb, ne-eqb}
 use Rattle.answers.specs.Answers.{okText, noText, tagsText, headText, pointsText}
-use Rattle.text.specs.Put.{Put}
-use Rattle.text.proofs.Laws.{Puts, _▹_, at-most}
+use Rattle.text.specs.Put.{Put, Puts}
+use Rattle.text.proofs.Laws.{_▹_, at-most}
 use Rattle.laws.proofs.Tests.{by-cond}
 use Rattle.tiff.specs.Outcome.{Outcome, refused, accepted}
 use Rattle.tiff.specs.Block.{blockOf, findOf, isKept}
@@ -153,10 +153,10 @@ module _ {o o₁ : List ℕ} {a a₁ : ℕ} (s : Sheet) where
 
 module _ {o o₁ : List ℕ} {a : ℕ} (s : Sheet) {r : Stepped} where
   pub answered-edit : (c : Call) (e : Edited) → afterEdit e ≡ sheetStep s c
-      → (r .sheet ≡ e .sheet) × Put o a (answerText (afterEdit e .0)) o₁ (r .at) × (length (answerText (afterEdit e .0)) ≤ mostText)
+      → (r .sheet ≡ e .sheet) × Puts o a (answerText (afterEdit e .0)) mostText o₁ (r .at)
       → Answers s (asks c) o a o₁ r
   answered-edit c e f p =
-      record { left = p .0 ∙ ap (λ (x : Answer × Sheet). x .1) f; put = rw (← f) (p .1); short = rw (← f) (p .2) }
+      record { left = p .0 ∙ ap (λ (x : Answer × Sheet). x .1) f; put = rw (← f) (p .1 .0); short = rw (← f) (p .1 .1) }
 
   pub by-call : (b : List ℕ) (k : Parsed) (x : Spelled) → k ≡ callOf b → spelledBy b k ≡ x → Answers s x o a o₁ r
       → Answers s (spelledIn b) o a o₁ r

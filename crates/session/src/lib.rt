@@ -13,7 +13,7 @@ ghost use mathlib.Core.Path.{_≡_};
 ghost use mathlib.Core.List.{[]};
 ghost use Prim.Native.Nat.{_≤_};
 ghost use lib.ListN.{length};
-ghost use Rattle.text.specs.Put.{Put};
+ghost use Rattle.text.specs.Put.{Puts};
 ghost use Rattle.listing.specs.Listing.{listNumber, headNumbers};
 ghost use Rattle.journal.specs.Calls.{load, list, fit, back, numbered, given, afterEdit};
 ghost use Rattle.journal.specs.Journal.{cut};
@@ -28,7 +28,7 @@ pub struct Stepped {
 
 // The line of a call that ends with one of 01's numbers: 0 is accepted.
 fn put_outcome(out: &mut [u8], at: usize, n: u32) -> usize
-    ensures { λ r. ⌜ (Put (now (out .entry)) at (outcomeText (numbered n []) []) (now (out .exit)) r) × (length (outcomeText (numbered n []) []) ≤ 14) ⌝ }
+    ensures { λ r. ⌜ Puts (now (out .entry)) at (outcomeText (numbered n []) []) 14 (now (out .exit)) r ⌝ }
 {
     if n == 0 {
         return answers::put_ok(out, at);
@@ -57,7 +57,7 @@ fn head_numbers(l: Listing) -> [u32; 6]
 // The lines of a listing: its head, and a line a point.
 fn put_listing(out: &mut [u8], at: usize, l: Listing, words: &[u32]) -> usize
     requires { ⌜ (l .count ≤ 39) × (l .index ≤ 39) ⌝ }
-    ensures { λ r. ⌜ (Put (now (out .entry)) at (givenText (headNumbers l) (now (words .entry))) (now (out .exit)) r) × (length (givenText (headNumbers l) (now (words .entry))) ≤ mostText) ⌝ }
+    ensures { λ r. ⌜ Puts (now (out .entry)) at (givenText (headNumbers l) (now (words .entry))) mostText (now (out .exit)) r ⌝ }
 {
     let head = head_numbers(l);
     let next = answers::put_head(out, at, &head);
@@ -67,7 +67,7 @@ fn put_listing(out: &mut [u8], at: usize, l: Listing, words: &[u32]) -> usize
 // The lines of what list or fit answers.
 fn put_list(out: &mut [u8], at: usize, answer: ListAnswer, words: &[u32]) -> usize
     requires { ⌜ fewPoints answer ⌝ }
-    ensures { λ r. ⌜ (Put (now (out .entry)) at (outcomeText (numbered (listNumber answer) (given answer)) (now (words .entry))) (now (out .exit)) r) × (length (outcomeText (numbered (listNumber answer) (given answer)) (now (words .entry))) ≤ mostText) ⌝ }
+    ensures { λ r. ⌜ Puts (now (out .entry)) at (outcomeText (numbered (listNumber answer) (given answer)) (now (words .entry))) mostText (now (out .exit)) r ⌝ }
 {
     match answer {
         ListAnswer::Empty => answers::put_no(out, at, 7),
@@ -108,7 +108,7 @@ fn answer_fit(sheet: Sheet, size: Size, out: &mut [u8], at: usize) -> Stepped
 
 // The sheet after cut, turn, mirror or back, and the answer's line.
 fn after_edit(edit: Edited, out: &mut [u8], at: usize) -> Stepped
-    ensures { λ r. ⌜ (r .sheet ≡ edit .sheet) × Put (now (out .entry)) at (answerText (afterEdit edit .0)) (now (out .exit)) (r .at) × (length (answerText (afterEdit edit .0)) ≤ mostText) ⌝ }
+    ensures { λ r. ⌜ (r .sheet ≡ edit .sheet) × Puts (now (out .entry)) at (answerText (afterEdit edit .0)) mostText (now (out .exit)) (r .at) ⌝ }
 {
     let answer = edit.answer;
     let next = put_outcome(out, at, edits::edit_number(answer));

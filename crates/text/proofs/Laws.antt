@@ -10,7 +10,7 @@ use lib.Seq.{sets, set-out, length-sets, take-suc, take-all}
 use native.Mathlib.Omega.{arith}
 use native.Mathlib.Nat.{min-eq-left, min-eq-right, suc-mul}
 use native.Mathlib.Numerals.{add-one}
-use Rattle.text.specs.Put.{Put, capped}
+use Rattle.text.specs.Put.{Put, Puts, capped}
 use Rattle.laws.proofs.Tests.{by-order}
 use Rattle.laws.proofs.Lists.{sets-past, sets-append}
 
@@ -74,11 +74,7 @@ going-end {w = w} g =
     let e : g .written ≡ w = sym (append-nil (g .written)) ∙ g .goes in
     rw e at (g .put)
 
--- ---- a text that is put, of so many characters at the most
-abbrev pub Puts : List ℕ → ℕ → List ℕ → ℕ → List ℕ → ℕ → Type 0
-Puts o a t m o₁ a₁ = (Put o a t o₁ a₁) × (length t ≤ m)
-
--- and another behind it
+-- ---- a text of so many characters at the most, and another behind it
 infixl 60 _▹_
 pub _▹_ : {o o₁ o₂ ts us : List ℕ} {a a₁ a₂ m k : ℕ} → Puts o a ts m o₁ a₁ → Puts o₁ a₁ us k o₂ a₂ → Puts o a (ts ++ us) (m + k) o₂ a₂
 _▹_ {ts = ts} {us = us} p q = (join (p .0) (q .0), rw (length-append ts us) (omega arith))

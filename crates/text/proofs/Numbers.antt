@@ -4,9 +4,9 @@ use mathlib.Core.Path.{_≡_}
 use mathlib.Core.List.{List, [], _∷_}
 use native.Mathlib.Omega.{arith}
 use Rattle.text.specs.Number.{lastDigit, digitsOf}
-use Rattle.text.specs.Put.{Put}
+use Rattle.text.specs.Put.{Put, Puts}
 use Rattle.text.proofs.Digits.{digits-few, digits-more, ten-digits}
-use Rattle.text.proofs.Laws.{join, Puts}
+use Rattle.text.proofs.Laws.{join}
 
 pub number-few : {o o₁ : List ℕ} {a a₁ d : ℕ} (n : ℕ) → n < 10 → d ≡ lastDigit n → Put o a (d ∷ []) o₁ a₁ → Puts o a (digitsOf n) 10 o₁ a₁
 number-few n h e p = rw (digits-few n h, ← e) (p, omega arith)

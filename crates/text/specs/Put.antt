@@ -15,3 +15,7 @@ pub record Put (before : List ℕ) (at : ℕ) (text : List ℕ) (after : List �
   pub laid : after ≡ sets before at text
   pub place : next ≡ capped (at + length text)
   pub counted : length before ≤ 18446744073709551615
+
+-- the same of a text of `most` characters at the most
+abbrev pub Puts : List ℕ → ℕ → List ℕ → ℕ → List ℕ → ℕ → Type 0
+Puts before at text most after next = (Put before at text after next) × (length text ≤ most)

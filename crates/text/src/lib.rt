@@ -5,7 +5,7 @@ ghost use mathlib.Core.List.{[], _∷_};
 ghost use Prim.Native.Nat.{_<_, _≤_, min};
 ghost use lib.ListN.{length};
 ghost use Rattle.text.specs.Number.{digitsOf, lastDigit, pair};
-ghost use Rattle.text.specs.Put.{Put};
+ghost use Rattle.text.specs.Put.{Put, Puts};
 
 // One byte.
 pub fn put_byte(out: &mut [u8], at: usize, b: u8) -> usize
@@ -43,7 +43,7 @@ fn last_digit(n: u32) -> u8
 
 // A number in decimal, without leading zeros.
 pub fn put_number(out: &mut [u8], at: usize, n: u32) -> usize
-    ensures { λ r. ⌜ (Put (now (out .entry)) at (digitsOf n) (now (out .exit)) r) × (length (digitsOf n) ≤ 10) ⌝ }
+    ensures { λ r. ⌜ Puts (now (out .entry)) at (digitsOf n) 10 (now (out .exit)) r ⌝ }
 {
     if n < 10 {
         return put_byte(out, at, last_digit(n));

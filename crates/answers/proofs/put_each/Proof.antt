@@ -1,4 +1,5 @@
 -- `put_each`: the loop's invariant is that the first i tags are put, 11 characters a tag at the most. Assumes nothing.
+use Rattle.text.specs.Put.{Puts}
 use Rattle.text.proofs.Laws as laws
 use Rattle.answers.specs.Answers.{space, nextAll}
 use Rattle.answers.proofs.Lines.{numbered}
@@ -10,7 +11,7 @@ use Rattle.answers.proofs.put_each.Statement.{statement}
 use Rattle.answers.proofs.put_each.Tie as tie
 
 abbrev Inv-loop : tie.InvT-loop
-Inv-loop out₀ at tags n after₀ i₀ t7 out after i = (i ≤ n) × laws.Puts out₀ at (nextAll tags i) (i * 11) out after
+Inv-loop out₀ at tags n after₀ i₀ t7 out after i = (i ≤ n) × Puts out₀ at (nextAll tags i) (i * 11) out after
 
 abbrev μ-loop : tie.MeasureT-loop
 μ-loop out₀ at tags n after₀ i₀ t7 out after i = n - i

@@ -1,4 +1,5 @@
 -- `put_points`: the loop's invariant is that the lines of the first i points are put, 66 characters a line at the most. Assumes nothing.
+use Rattle.text.specs.Put.{Puts}
 use Rattle.text.proofs.Laws as laws
 use mathlib.Core.Path.{refl}
 use native.Mathlib.Omega.{arith}
@@ -8,7 +9,7 @@ use Rattle.answers.proofs.put_points.Statement.{statement}
 use Rattle.answers.proofs.put_points.Tie as tie
 
 abbrev Inv-loop : tie.InvT-loop
-Inv-loop out₀ at words count n next₀ i₀ out next i = (i ≤ n) × laws.Puts out₀ at (pointsText words i) (i * 66) out next
+Inv-loop out₀ at words count n next₀ i₀ out next i = (i ≤ n) × Puts out₀ at (pointsText words i) (i * 66) out next
 
 abbrev μ-loop : tie.MeasureT-loop
 μ-loop out₀ at words count n next₀ i₀ out next i = n - i

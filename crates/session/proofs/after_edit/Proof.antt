@@ -15,7 +15,7 @@ same-length : tie.Need-same-length
 same-length c = search needs
 
 returns : tie.Need-returns
-returns c = let p = texts.edit-text ((c .before .before .before .before .before .before .before .args .edit)) _ (c .before .before .before .before .edit-number .ensures) (c .before .before .before .put-outcome .ensures) in (refl, p .0, p .1)
+returns c = let p = texts.edit-text ((c .before .before .before .before .before .before .before .args .edit)) _ (c .before .before .before .before .edit-number .ensures) (c .before .before .before .put-outcome .ensures) in (refl, p)
 
 pub after-edit-spec : {M : Type 1} → statement M
 after-edit-spec =
