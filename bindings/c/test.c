@@ -31,6 +31,9 @@ static const uint8_t manual[70] = "MM\0*\0\0\0\x08\0\x02\0\x07\0\x02\0\0\0\x06\0
                                   "MANUAL"
                                   "0100\0\0\x03\x01\x01\x80";
 
+/* The whole case's block with zeros behind it, one byte longer than a block may be. */
+static uint8_t longest[1048577];
+
 /* A directory of no entries. */
 static const uint8_t none[10] = "MM\0*\0\0\0\x08\0\0";
 
@@ -86,6 +89,11 @@ static void photograph(void)
     mark();
     EXPECT(PHOTOGRAPH(note, 7, out, 1000) == FOCUSPOINTS_UNREADABLE && kept(0));
     EXPECT(PHOTOGRAPH(none, sizeof none, out, 0) == FOCUSPOINTS_MISSING && kept(0));
+    memcpy(longest, note, sizeof note);
+    EXPECT(PHOTOGRAPH(longest, sizeof longest, out, 1000) == FOCUSPOINTS_UNREADABLE && kept(0));
+    EXPECT(PHOTOGRAPH(longest, sizeof longest - 1, out, 1000) == FOCUSPOINTS_OK && kept(18));
+    EXPECT(memcmp(out, listing, sizeof listing) == 0);
+    mark();
     memcpy(block, note, sizeof note);
     block[22] = '9'; /* a version that is not known */
     EXPECT(PHOTOGRAPH(block, sizeof block, out, 1000) == FOCUSPOINTS_UNUSABLE && kept(0));

@@ -21,7 +21,7 @@ block =
 abbrev pub wholeCase : List Call
 wholeCase = load block Missing Missing d600 ∷ change turn ∷ change (cut 1900 2900 400 400) ∷ list (replicate 7 9) ∷ []
 
--- "ok ok ok, frame 400 400 points 1 primary 0 mode 1 origin 2, 1 109 108 164 164 0"; the seventh place of the buffer is kept
+-- three times "ok"; then "frame 400 400 points 1 primary 0 mode 1 origin 2" and "1 109 108 164 164 0". The seventh place of the buffer is kept
 abbrev pub WholeCase : Type 0
 WholeCase =
     runSheet freshSheet wholeCase ≡

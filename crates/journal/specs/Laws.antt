@@ -1,5 +1,5 @@
--- Laws of lists of calls, which show that the claim is no empty promise: edits undo one another as they do on a picture in the hand,
--- every accepted edit moves what is listed, and 64 edits can stand. proofs/Laws.antt proves them.
+-- Laws of lists of calls and of the journal, which show that the claim is no empty promise: edits undo one another as they do on a picture
+-- in the hand, every edit of a row moves what is listed before it, and 64 edits can stand. proofs/Laws.antt proves them.
 use Prim.Native.Nat.{ℕ, _+_, _≤_, _<_}
 use mathlib.Core.List.{List, [], _∷_, _++_}
 use mathlib.Core.Option.{none, some}

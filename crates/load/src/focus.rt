@@ -31,7 +31,7 @@ pub enum FocusAnswer {
 }
 
 // The points of one load in their frame, of which the first `count` places hold one each and `primary` is the index of
-// the primary. Everything is zero where the load is refused.
+// the primary. Where the load is refused, every number is zero, the mode is none and the origin is Recorded.
 pub struct FocusPoints {
     pub answer: FocusAnswer,
     pub frame: Size,

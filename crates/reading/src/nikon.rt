@@ -4,7 +4,6 @@ use geometry::OptionalSize;
 use geometry::Point;
 use geometry::Size;
 use numbers::io::ByteOrder;
-use numbers::io::Pair;
 use tiff::ifd::Block;
 ghost use mathlib.Core.Path.{_≡_};
 ghost use Prim.Native.Nat.{_<_};

@@ -7,7 +7,6 @@ use listing::ListAnswer;
 use listing::Listing;
 use reading::nikon::ContentsAnswer;
 use sheet::Edited;
-use sheet::Loaded;
 use sheet::Sheet;
 ghost use mathlib.Core.Path.{_≡_};
 ghost use mathlib.Core.List.{[]};

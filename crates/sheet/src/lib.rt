@@ -1,5 +1,6 @@
-// The sheet: the points of one load, under edits that stand until they are taken back. Every method takes the sheet by value
-// and gives back what it leaves; it asks nothing of its caller, and a refused call changes nothing.
+// The sheet: the points of one load, under edits that stand until they are taken back. A public method takes the sheet by value and
+// asks nothing of its caller; load, cut, turn, mirror and back give back the sheet that they leave, list and fit do not change it. A
+// refused call changes nothing.
 use afinfo::focus::FocusAreaMode;
 use edits::Edit;
 use edits::EditAnswer;

@@ -1,6 +1,5 @@
 // The listing of the points where the standing edits leave them, and in another frame.
 use crate::Sheet;
-use afinfo::focus::FocusAreaMode;
 use fitting::focus::FocusPoint;
 use geometry::Size;
 use listing::ListAnswer;
@@ -15,10 +14,10 @@ ghost use Rattle.sheet.specs.Listing.{listing, presentOf, scaledAll, lis
 
 // The listed points in 39 places, how many there are, the primary's index among them, and their frame.
 struct Present {
-    pub frame: Size,
-    pub points: [FocusPoint; 39],
-    pub count: usize,
-    pub index: usize,
+    frame: Size,
+    points: [FocusPoint; 39],
+    count: usize,
+    index: usize,
 }
 
 // The first n points measured in another frame, the others as they are.

@@ -64,7 +64,7 @@ usedOf m room s h at piece = ifRoom room at (usedIn m room s h at piece)
 unfoldable pub lastText : Sheet → List ℕ → List ℕ
 lastText s h = cond (eqb (length h) 0) [] (sheetText s (spelled h))
 
--- the characters `t`, taken by a sheet that holds the first `held` characters of `line₀`, which has room for m: the sheet, what is held
+-- the characters `t`, taken by a sheet that holds the first `held` characters of `line₀`, which has room for `length line₀`: the sheet, what is held
 -- of the line, the line whole, and the text at its place in the buffer
 pub record Takes (s : Sheet) (line₀ : List ℕ) (held : ℕ) (t : List ℕ)
     (before : List ℕ) (at : ℕ) (after : List ℕ) (line : List ℕ) (r : Fed) : Type 0 where
