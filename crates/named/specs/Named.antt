@@ -24,7 +24,7 @@ use Rattle.named.specs.declared.Window.{Window}
 use Rattle.named.specs.declared.PlacedFrame.{PlacedFrame}
 use Rattle.named.specs.declared.PlacedFrame.the-variants.{Unconfirmed, Confirmed}
 use Rattle.named.specs.declared.Placing.{Placing}
-use Rattle.named.specs.declared.Placing.the-variants.{Left, Listed}
+use Rattle.named.specs.declared.Placing.the-variants.{Unlisted, Listed}
 use Rattle.load.specs.Sound.{Sound}
 use Rattle.named.specs.Points.{hasTable, points}
 
@@ -118,7 +118,7 @@ listed w primary mask = listedFrom w primary mask points
 
 -- the code's value for a point that is listed or is not
 abbrev pub ifListed : Bool → FocusPoint → Placing
-ifListed is p = cond is (Listed p) Left
+ifListed is p = cond is (Listed p) Unlisted
 
 -- whether a list has a point of a number
 unfoldable pub hasNumber : ℕ → List FocusPoint → Bool

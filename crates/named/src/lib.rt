@@ -151,7 +151,7 @@ fn is_named(number: u32, primary: u32, mask: u64) -> bool
 
 // What becomes of a point of the table.
 enum Placing {
-    Left,
+    Unlisted,
     Listed(FocusPoint),
 }
 
@@ -162,10 +162,10 @@ fn less_origin(point: TablePoint, window: Window) -> Placing
     let frame = window.frame;
     let origin = window.origin;
     if point.x < origin.x {
-        return Placing::Left;
+        return Placing::Unlisted;
     }
     if point.y < origin.y {
-        return Placing::Left;
+        return Placing::Unlisted;
     }
     let moved = FocusPoint {
         number: point.number,
@@ -180,7 +180,7 @@ fn less_origin(point: TablePoint, window: Window) -> Placing
         in_focus: InFocus::Unrecorded,
     };
     if !fitting::focus::point_fits(frame, moved) {
-        return Placing::Left;
+        return Placing::Unlisted;
     }
     Placing::Listed(moved)
 }
@@ -191,7 +191,7 @@ fn placed_point(point: TablePoint, window: Window, primary: u32, mask: u64) -> P
     ensures { λ r. ⌜ r ≡ ifListed (isListed window primary mask point) (lessOrigin window point) ⌝ }
 {
     if !is_named(point.number, primary, mask) {
-        return Placing::Left;
+        return Placing::Unlisted;
     }
     less_origin(point, window)
 }
@@ -211,7 +211,7 @@ fn listed_points(window: Window, primary: u32, mask: u64) -> Row
                 points[count] = placed;
                 count += 1;
             }
-            Placing::Left => {}
+            Placing::Unlisted => {}
         }
         i += 1;
     }

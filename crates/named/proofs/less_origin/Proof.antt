@@ -7,24 +7,24 @@ use borrow.Author.Tests.{le-leb, lt-leb, not-true, not-false}
 use Rattle.fitting.specs.Fit.{pointFits}
 use Rattle.named.specs.declared.points.TablePoint.{TablePoint}
 use Rattle.named.specs.declared.Window.{Window}
-use Rattle.named.specs.declared.Placing.the-variants.{Left, Listed}
+use Rattle.named.specs.declared.Placing.the-variants.{Unlisted, Listed}
 use Rattle.named.specs.Named.{lessOrigin, fitsWindow, ifListed}
 use borrow.Author.Needs.{needs}
 use Rattle.named.proofs.less_origin.Statement.{statement}
 use Rattle.named.proofs.less_origin.Tie as tie
 
 module _ (w : Window) (p : TablePoint) where
-  before-left : p .x < w .origin .x → Left ≡ ifListed (fitsWindow w p) (lessOrigin w p)
+  before-left : p .x < w .origin .x → Unlisted ≡ ifListed (fitsWindow w p) (lessOrigin w p)
   unfolding fitsWindow
   before-left h = rw (lt-leb (w .origin .x) (p .x) h)
 
   module _ (across : w .origin .x ≤ p .x) where
-    before-top : p .y < w .origin .y → Left ≡ ifListed (fitsWindow w p) (lessOrigin w p)
+    before-top : p .y < w .origin .y → Unlisted ≡ ifListed (fitsWindow w p) (lessOrigin w p)
     unfolding fitsWindow
     before-top h = rw (le-leb (w .origin .x) (p .x) across, lt-leb (w .origin .y) (p .y) h)
 
     module _ (down : w .origin .y ≤ p .y) (r : Bool) (er : r ≡ pointFits (w .frame) (lessOrigin w p)) where
-      not-on : not r ≡ true → Left ≡ ifListed (fitsWindow w p) (lessOrigin w p)
+      not-on : not r ≡ true → Unlisted ≡ ifListed (fitsWindow w p) (lessOrigin w p)
       unfolding fitsWindow
       not-on n =
           rw (le-leb (w .origin .x) (p .x) across, le-leb (w .origin .y) (p .y) down, ← er, not-true r n)

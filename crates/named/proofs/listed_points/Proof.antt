@@ -14,7 +14,7 @@ use Rattle.fitting.specs.declared.focus.FocusPoint.{FocusPoint}
 use Rattle.named.specs.declared.points.TablePoint.{TablePoint}
 use Rattle.named.specs.declared.Window.{Window}
 use Rattle.named.specs.declared.Placing.{Placing}
-use Rattle.named.specs.declared.Placing.the-variants.{Left, Listed}
+use Rattle.named.specs.declared.Placing.the-variants.{Unlisted, Listed}
 use Rattle.load.specs.declared.focus.Row.{Row}
 use Rattle.load.specs.Load.{noPoint, places, rowOf}
 use Rattle.named.specs.Points.{points as table, noTablePoint}
@@ -31,7 +31,7 @@ Going w primary mask ps n i = Held 39 noPoint (listed w primary mask) ps n (list
 -- a point's part in the list
 abbrev joined : Placing → List FocusPoint → List FocusPoint
 joined (Listed q) qs = q ∷ qs
-joined Left qs = qs
+joined Unlisted qs = qs
 
 part : (b : Bool) (q : FocusPoint) (qs : List FocusPoint) → cond b (q ∷ qs) qs ≡ joined (ifListed b q) qs
 part true q qs = refl
@@ -56,7 +56,7 @@ module _ (w : Window) (primary mask n i : ℕ) (ps : List FocusPoint) (h : i < 3
   is-listed q g e =
       stored 39 noPoint (listed w primary mask) ps n q (listedFrom w primary mask (drop (i + 1) table)) g (rw (step, e) at k)
 
-  is-left : r ≡ Left → Going w primary mask ps n (i + 1)
+  is-left : r ≡ Unlisted → Going w primary mask ps n (i + 1)
   is-left e = rw (step, e) at k
 
 -- past the last row nothing is left

@@ -6,14 +6,14 @@ use borrow.Author.Tests.{not-true, not-false}
 use Rattle.named.specs.declared.points.TablePoint.{TablePoint}
 use Rattle.named.specs.declared.Window.{Window}
 use Rattle.named.specs.declared.Placing.{Placing}
-use Rattle.named.specs.declared.Placing.the-variants.{Left}
+use Rattle.named.specs.declared.Placing.the-variants.{Unlisted}
 use Rattle.named.specs.Named.{lessOrigin, fitsWindow, isNamed, isListed, ifListed}
 use borrow.Author.Needs.{needs}
 use Rattle.named.proofs.placed_point.Statement.{statement}
 use Rattle.named.proofs.placed_point.Tie as tie
 
 module _ (w : Window) (primary mask : ℕ) (p : TablePoint) (b : Bool) (eb : b ≡ isNamed primary mask (p .number)) where
-  not-named : not b ≡ true → Left ≡ ifListed (isListed w primary mask p) (lessOrigin w p)
+  not-named : not b ≡ true → Unlisted ≡ ifListed (isListed w primary mask p) (lessOrigin w p)
   unfolding isListed
   not-named n = rw (← eb, not-true b n)
 
