@@ -1,4 +1,4 @@
--- `nikon::af_info2_record`: by the version, then by the length. Assumes nothing.
+-- `af_info2_record`: by the version, then by the length. Assumes nothing.
 use mathlib.Core.Path.{_≡_}
 use mathlib.Core.List.{List}
 use Prim.Native.Nat.{ℕ, _≤_, _<_}

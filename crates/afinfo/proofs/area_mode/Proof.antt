@@ -1,4 +1,4 @@
--- `nikon::area_mode`: by the code, then by the detection method. Assumes nothing.
+-- `area_mode`: by the code, then by the detection method. Assumes nothing.
 use mathlib.Core.Bool.{or-false}
 use lib.Dec.{eqb}
 use borrow.Author.Tests.{ne-eqb}

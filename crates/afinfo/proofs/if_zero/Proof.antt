@@ -1,4 +1,4 @@
--- `nikon::if_zero`: by the detection method. Assumes nothing.
+-- `if_zero`: by the detection method. Assumes nothing.
 use borrow.Author.Tests.{eq-eqb, ne-eqb}
 use Rattle.afinfo.proofs.if_zero.Statement.{statement}
 use Rattle.afinfo.proofs.if_zero.Tie as tie

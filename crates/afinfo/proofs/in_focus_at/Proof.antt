@@ -1,4 +1,4 @@
--- `nikon::in_focus_at`: by the place, then by the byte. Assumes nothing.
+-- `in_focus_at`: by the place, then by the byte. Assumes nothing.
 use mathlib.Core.Path.{_≡_}
 use mathlib.Core.List.{List}
 use Prim.Native.Nat.{ℕ}

@@ -1,4 +1,4 @@
--- `nikon::layout_at`: the table is the definition's; past it there is no layout. Assumes nothing.
+-- `layout_at`: the table is the definition's; past it there is no layout. Assumes nothing.
 use mathlib.Core.Path.{sym}
 use lib.ListN.{List·getD-eq-default}
 use Rattle.afinfo.specs.Record.{layouts, noLayout}

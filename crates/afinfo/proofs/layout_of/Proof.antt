@@ -1,4 +1,4 @@
--- `nikon::layout_of`: the loop's invariant is that the versions that are left decide. Assumes nothing.
+-- `layout_of`: the loop's invariant is that the versions that are left decide. Assumes nothing.
 use mathlib.Core.Path.{_≡_, refl, _∙_, sym}
 use mathlib.Core.Bool.{Bool, true, false}
 use mathlib.Core.List.{List}

@@ -1,4 +1,4 @@
--- `nikon::mask_of`: four bytes, two and one, put together, are the seven. Assumes nothing.
+-- `mask_of`: four bytes, two and one, put together, are the seven. Assumes nothing.
 use mathlib.Core.Path.{_≡_}
 use mathlib.Core.List.{List}
 use Prim.Native.Nat.{ℕ, _+_, _*_}

@@ -1,4 +1,4 @@
--- `nikon::named_points`: by the place; the definition, byte by byte. Assumes nothing.
+-- `named_points`: by the place; the definition, byte by byte. Assumes nothing.
 use mathlib.Core.Path.{_≡_}
 use mathlib.Core.List.{List}
 use Prim.Native.Nat.{ℕ}

@@ -1,4 +1,4 @@
--- `nikon::record_in`: the definition, field by field. Assumes nothing.
+-- `record_in`: the definition, field by field. Assumes nothing.
 use mathlib.Core.Path.{_≡_}
 use mathlib.Core.List.{List}
 use Prim.Native.Nat.{ℕ}

@@ -1,4 +1,4 @@
--- `nikon::shorts_at`: a part that goes to the end is all that `drop` leaves, and past the end that is nothing. Assumes nothing.
+-- `shorts_at`: a part that goes to the end is all that `drop` leaves, and past the end that is nothing. Assumes nothing.
 use mathlib.Core.Path.{_∙_, sym, ap}
 use Prim.Native.Nat.{_-_}
 use native.Mathlib.Omega.{arith}

@@ -1,4 +1,4 @@
--- `nikon::size_at`: the pair, as a size. Assumes nothing.
+-- `size_at`: the pair, as a size. Assumes nothing.
 use mathlib.Core.Path.{_≡_}
 use Rattle.afinfo.specs.Record.{sizeAt}
 use Rattle.numbers.specs.declared.io.Pair.{Pair}

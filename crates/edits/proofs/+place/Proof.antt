@@ -1,4 +1,4 @@
--- `edit::place`: placed by the number of edits, which falls at the recursive call. Assumes nothing.
+-- `place`: placed by the number of edits, which falls at the recursive call. Assumes nothing.
 use mathlib.Core.Path.{_≡_, refl, _∙_}
 use mathlib.Core.Bool.{true}
 use mathlib.Core.List.{List}

@@ -1,4 +1,4 @@
--- `edit::cut_passes`: the four parts of cutPasses, in the code's order. Assumes nothing.
+-- `cut_passes`: the four parts of cutPasses, in the code's order. Assumes nothing.
 use mathlib.Core.Path.{_≡_}
 use mathlib.Core.Bool.{Bool, true, false}
 use Prim.Native.Nat.{ℕ, _+_}

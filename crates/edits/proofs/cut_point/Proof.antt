@@ -1,4 +1,4 @@
--- `edit::cut_point`: what is listed and where, by what the two callees ensure. Assumes nothing.
+-- `cut_point`: what is listed and where, by what the two callees ensure. Assumes nothing.
 use mathlib.Core.Path.{_≡_}
 use mathlib.Core.Bool.{Bool, _&&_}
 use Prim.Native.Nat.{ℕ}

@@ -1,4 +1,4 @@
--- `edit::edit_at`: editAt by the first word. Assumes nothing.
+-- `edit_at`: editAt by the first word. Assumes nothing.
 use mathlib.Core.Path.{_≡_, refl}
 use mathlib.Core.List.{List}
 use Prim.Native.Nat.{ℕ, _+_, _*_}

@@ -1,4 +1,4 @@
--- `edit::mirrored_point`: the center by what `less` ensures, the rest as it stands. Assumes nothing.
+-- `mirrored_point`: the center by what `less` ensures, the rest as it stands. Assumes nothing.
 use mathlib.Core.Path.{_≡_}
 use Prim.Native.Nat.{ℕ, _-_}
 use Rattle.geometry.specs.declared.Size.{Size}

@@ -1,4 +1,4 @@
--- `edit::move_by`: moved by cases of the edit, each by what its callee ensures. Assumes nothing.
+-- `move_by`: moved by cases of the edit, each by what its callee ensures. Assumes nothing.
 use mathlib.Core.Path.{_≡_}
 use Prim.Native.Nat.{ℕ}
 use Rattle.fitting.specs.declared.focus.FocusPoint.{FocusPoint}

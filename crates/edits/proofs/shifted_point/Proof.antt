@@ -1,4 +1,4 @@
--- `edit::shifted_point`: both coordinates by what `less` ensures, the rest as it stands. Assumes nothing.
+-- `shifted_point`: both coordinates by what `less` ensures, the rest as it stands. Assumes nothing.
 use mathlib.Core.Path.{_≡_}
 use Prim.Native.Nat.{ℕ, _-_}
 use Rattle.fitting.specs.declared.focus.FocusPoint.{FocusPoint}

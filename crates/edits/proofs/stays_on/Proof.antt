@@ -1,4 +1,4 @@
--- `edit::stays_on`: the three parts of staysOn, in the code's order. Assumes nothing.
+-- `stays_on`: the three parts of staysOn, in the code's order. Assumes nothing.
 use mathlib.Core.Path.{_≡_}
 use mathlib.Core.Bool.{Bool, false}
 use Prim.Native.Nat.{ℕ, _<_, _≤_}

@@ -1,4 +1,4 @@
--- `edit::words_of`: wordsOf by cases of the edit. Assumes nothing.
+-- `words_of`: wordsOf by cases of the edit. Assumes nothing.
 use borrow.Author.Needs.{needs}
 use Rattle.edits.proofs.words_of.Statement.{statement}
 use Rattle.edits.proofs.words_of.Tie as tie

@@ -1,4 +1,4 @@
--- `list::list_number`: case by case. Assumes nothing.
+-- `list_number`: case by case. Assumes nothing.
 use Rattle.listing.specs.Listing.{listNumber}
 use borrow.Author.Needs.{needs}
 use Rattle.listing.proofs.list_number.Statement.{statement}

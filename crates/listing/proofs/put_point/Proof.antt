@@ -1,4 +1,4 @@
--- `list::put_point`: six stores are sets. Assumes nothing.
+-- `put_point`: six stores are sets. Assumes nothing.
 use mathlib.Core.Path.{_≡_}
 use mathlib.Core.List.{List}
 use Prim.Native.Nat.{ℕ, _+_}

@@ -1,4 +1,4 @@
--- `list::write_points`: without room nothing is written; else the loop's invariant is that the first i points are written over the
+-- `write_points`: without room nothing is written; else the loop's invariant is that the first i points are written over the
 -- buffer's front. Assumes nothing.
 use mathlib.Core.Path.{_≡_, refl}
 use Prim.Native.Nat.{_-_, _≤_}

@@ -1,4 +1,4 @@
--- `named::index_of`: the index is the points passed and the index among those that are left. Assumes nothing.
+-- `index_of`: the index is the points passed and the index among those that are left. Assumes nothing.
 use Prim.Native.Nat.{ℕ, suc, _+_, _-_, _<_, _≤_}
 use mathlib.Core.List.{List, [], _∷_}
 use mathlib.Core.Path.{_≡_, sym, ap, _∙_}

@@ -1,4 +1,4 @@
--- `named::is_named`: the primary, or else by the mask. Assumes nothing.
+-- `is_named`: the primary, or else by the mask. Assumes nothing.
 use borrow.Author.Tests.{eq-eqb, ne-eqb}
 use Rattle.named.specs.Named.{isNamed}
 use borrow.Author.Needs.{needs}

@@ -1,4 +1,4 @@
--- `named::less_origin`: a center before the origin is tested first, so that the differences are exact; then the point in the window.
+-- `less_origin`: a center before the origin is tested first, so that the differences are exact; then the point in the window.
 -- Assumes nothing.
 use Prim.Native.Nat.{_≤_, _<_}
 use mathlib.Core.Path.{_≡_}

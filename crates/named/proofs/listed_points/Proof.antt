@@ -1,4 +1,4 @@
--- `named::listed_points`: the loop collects the points at the front of the places; the rows that are left decide the rest. Assumes
+-- `listed_points`: the loop collects the points at the front of the places; the rows that are left decide the rest. Assumes
 -- nothing.
 use mathlib.Core.Path.{_≡_, refl}
 use mathlib.Core.Bool.{Bool, true, false, cond}

@@ -1,4 +1,4 @@
--- `named::marks`: a shift to the right divides by a power of two. Assumes nothing.
+-- `marks`: a shift to the right divides by a power of two. Assumes nothing.
 use mathlib.Core.Path.{refl}
 use Rattle.named.specs.Named.{marked}
 use borrow.Author.Needs.{needs}

@@ -1,4 +1,4 @@
--- `named::on_crop`: the three tests in the definition's order. Assumes nothing.
+-- `on_crop`: the three tests in the definition's order. Assumes nothing.
 use mathlib.Core.Path.{_≡_}
 use mathlib.Core.Bool.{Bool, true, false, not}
 use borrow.Author.Tests.{eq-eqb, ne-eqb, not-true, not-false}

@@ -1,4 +1,4 @@
--- `named::picture_is`: by cases on the size. Assumes nothing.
+-- `picture_is`: by cases on the size. Assumes nothing.
 use mathlib.Core.Path.{_≡_}
 use mathlib.Core.Bool.{Bool}
 use Rattle.geometry.specs.declared.Size.{Size}

@@ -1,4 +1,4 @@
--- `named::placed_frame`: by cases on the crop, then whether it cuts anything. Assumes nothing.
+-- `placed_frame`: by cases on the crop, then whether it cuts anything. Assumes nothing.
 use mathlib.Core.Path.{_≡_}
 use mathlib.Core.Bool.{Bool, true, false}
 use Rattle.tiff.specs.Outcome.{accepted}

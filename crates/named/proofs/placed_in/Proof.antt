@@ -1,4 +1,4 @@
--- `named::placed_in`: the primary is listed just where its index is below the count. Assumes nothing.
+-- `placed_in`: the primary is listed just where its index is below the count. Assumes nothing.
 use Prim.Native.Nat.{ℕ, _-_, _<_, _≤_}
 use mathlib.Core.Path.{_≡_, refl, ap, _∙_}
 use mathlib.Core.Bool.{Bool, true, false, cond}

@@ -1,4 +1,4 @@
--- `named::placed_point`: not named, not listed; named, it is for the window to say. Assumes nothing.
+-- `placed_point`: not named, not listed; named, it is for the window to say. Assumes nothing.
 use Prim.Native.Nat.{ℕ}
 use mathlib.Core.Path.{_≡_}
 use mathlib.Core.Bool.{Bool, true, false, not}

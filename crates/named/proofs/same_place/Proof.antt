@@ -1,4 +1,4 @@
--- `named::same_place`: across, then down. Assumes nothing.
+-- `same_place`: across, then down. Assumes nothing.
 use borrow.Author.Tests.{eq-eqb, ne-eqb}
 use Rattle.named.specs.Named.{samePlace}
 use Rattle.named.proofs.same_place.Statement.{statement}

@@ -1,4 +1,4 @@
--- `named::uncropped_window`: by the one test. Assumes nothing.
+-- `uncropped_window`: by the one test. Assumes nothing.
 use mathlib.Core.Path.{_≡_}
 use mathlib.Core.Bool.{Bool, true, false}
 use Rattle.geometry.specs.declared.OptionalSize.{OptionalSize}

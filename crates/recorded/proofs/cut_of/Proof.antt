@@ -1,4 +1,4 @@
--- `recorded::cut_of`: one law for each way out, over two sizes. Assumes nothing.
+-- `cut_of`: one law for each way out, over two sizes. Assumes nothing.
 use mathlib.Core.Path.{_≡_}
 use Prim.Native.Nat.{_≤_, _<_}
 use native.Mathlib.Omega.{arith}

@@ -1,4 +1,4 @@
--- `recorded::in_crop`: the point in its own frame, then by the crop. Assumes nothing.
+-- `in_crop`: the point in its own frame, then by the crop. Assumes nothing.
 use mathlib.Core.Path.{_≡_}
 use mathlib.Core.Bool.{Bool, true, false, not}
 use borrow.Author.Tests.{not-true, not-false}

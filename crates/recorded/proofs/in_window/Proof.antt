@@ -1,4 +1,4 @@
--- `recorded::in_window`: the three tests in the definition's order. Assumes nothing.
+-- `in_window`: the three tests in the definition's order. Assumes nothing.
 use mathlib.Core.Path.{_≡_}
 use mathlib.Core.Bool.{Bool, true, false, not}
 use borrow.Author.Tests.{not-true, not-false}

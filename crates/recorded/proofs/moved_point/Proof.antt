@@ -1,4 +1,4 @@
--- `recorded::moved_point`: the definition, coordinate by coordinate. Assumes nothing.
+-- `moved_point`: the definition, coordinate by coordinate. Assumes nothing.
 use mathlib.Core.Path.{_≡_}
 use Prim.Native.Nat.{ℕ, _-_}
 use Rattle.geometry.specs.declared.Size.{Size}

@@ -1,4 +1,4 @@
--- `recorded::offset_in`: a difference stops at 0, and half of that is 0. Assumes nothing.
+-- `offset_in`: a difference stops at 0, and half of that is 0. Assumes nothing.
 use native.Mathlib.Omega.{arith}
 use mathlib.Core.Path.{_≡_, refl}
 use Prim.Native.Nat.{ℕ, _-_, _<_}

@@ -1,4 +1,4 @@
--- `recorded::onto_crop`: by the crop area, then by the picture. Assumes nothing.
+-- `onto_crop`: by the crop area, then by the picture. Assumes nothing.
 use mathlib.Core.Path.{_≡_, _∙_}
 use Rattle.geometry.specs.declared.Size.{Size}
 use Rattle.geometry.specs.declared.OptionalSize.{OptionalSize}

@@ -1,4 +1,4 @@
--- `recorded::onto_picture`: by whether the picture has a zero side. Assumes nothing.
+-- `onto_picture`: by whether the picture has a zero side. Assumes nothing.
 use mathlib.Core.Path.{_≡_}
 use mathlib.Core.Bool.{Bool, true, false}
 use Rattle.tiff.specs.Outcome.{Outcome, refused}

@@ -1,4 +1,4 @@
--- `recorded::onto_window`: by what the crop cut, then by the uncut side. Assumes nothing.
+-- `onto_window`: by what the crop cut, then by the uncut side. Assumes nothing.
 use mathlib.Core.Path.{_≡_, _∙_}
 use borrow.Author.Tests.{eq-eqb, ne-eqb}
 use Rattle.tiff.specs.Outcome.{refused}

@@ -1,4 +1,4 @@
--- `recorded::scaled_to`: by whether the target has a zero side. Assumes nothing.
+-- `scaled_to`: by whether the target has a zero side. Assumes nothing.
 use mathlib.Core.Path.{_≡_}
 use mathlib.Core.Bool.{Bool, true, false}
 use Rattle.tiff.specs.Outcome.{refused}

@@ -1,4 +1,4 @@
--- `recorded::shifts_into`: the definition, test by test. Assumes nothing.
+-- `shifts_into`: the definition, test by test. Assumes nothing.
 use borrow.Author.Tests.{le-leb, lt-leb}
 use Rattle.recorded.specs.Recorded.{shifts}
 use borrow.Author.Needs.{needs}

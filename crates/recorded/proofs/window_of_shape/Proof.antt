@@ -1,4 +1,4 @@
--- `recorded::window_of_shape`: by what the crop cut. Assumes nothing.
+-- `window_of_shape`: by what the crop cut. Assumes nothing.
 use mathlib.Core.Path.{_≡_}
 use Prim.Native.Nat.{ℕ}
 use Rattle.geometry.specs.declared.Size.{Size}
