@@ -4,7 +4,8 @@ demos.py --check    say whether the files are what would be written
 
 The demonstrations are demo/NAME.txt, a script of call lines, and demo/NAME.out,
 what `focusdesk` prints for it; the whole case is also what the program's own
-test crate is held to, crates/focusdesk/stdin and stdout. README.md shows them:
+crate is held to, crates/focusdesk/stdin and stdout, there without its last
+feed, so that a program which forgets the last line fails. README.md shows them:
 there the indented block after `$ ./focusdesk < demo/NAME.txt`, and the number
 of its lines if that is said, are written too. What is printed comes from
 reference.py. Beside each line stands its answer as worked out by hand from
@@ -226,7 +227,7 @@ def files():
         yield os.path.join("demo", name + ".txt"), given
         yield os.path.join("demo", name + ".out"), printed
         if name == "whole-case":
-            yield os.path.join("crates", "focusdesk", "stdin"), given
+            yield os.path.join("crates", "focusdesk", "stdin"), given[:-1]
             yield os.path.join("crates", "focusdesk", "stdout"), printed
     text = stored.read("README.md")
     yield "README.md", readme(text, shown)

@@ -4,9 +4,11 @@ malformed.py --check    say whether the files are what would be written
 
 Writes crates/script_test/stdin: lines that are malformed in every way, and
 the well-formed ones beside them, on an empty sheet and on one with a standing
-edit, each with a list line after it; and crates/script_test/stdout, what
-`focusdesk` must print. Which lines are malformed is said here, line by line;
-nothing is written if reference.py says otherwise. The last feed is missing.
+edit, and loads that runs against the Rust leave out, each with a list line
+after it; and crates/script_test/stdout, what `focusdesk` must print. Which
+lines are malformed, and what the loads are answered, is said here, line by
+line; nothing is written if reference.py says otherwise. The last feed is
+missing.
 """
 
 import os
@@ -15,6 +17,7 @@ import sys
 sys.dont_write_bytecode = True
 
 import demos
+import readers
 import reference
 import script
 import stored
@@ -144,6 +147,76 @@ def well_formed():
         yield script.TURN, "ok"
 
 
+FRAME, CENTRE, AREA = (6000, 4000), (3000, 2000), (300, 200)
+BOTH, WIDTH, HEIGHT = (3000, 2000), (3000, 4000), (6000, 2000)
+
+
+def position(*entries):
+    """Version 0101 with a position, behind these entries."""
+    return demos.recorded_block(b"0101", "big", (FRAME, CENTRE, AREA), 1, (0, 0), entries)
+
+
+def crop(cropped):
+    return (0x1B, 3, 7, readers.numbers("big", 2, 9, *FRAME, *cropped, 0, 0))
+
+
+def area(kind=3, *offset):
+    """A window of 1500 by 1000 in its raw size."""
+    return (0x45, kind, 4, readers.numbers("big", 2 if kind in (3, 8) else 4, 8, 6, 1500, 1000), *offset)
+
+
+def edges():
+    """Loads whose answer hangs on one rule: the number that refuses them, or
+    what is listed then."""
+    raw, as_recorded = (1508, 1006), "frame 6000 4000 points 1 primary 0 mode 1 origin 1\n0 3000 2000 300 200 2"
+    halved = "frame 3000 2000 points 1 primary 0 mode 1 origin 1\n0 1500 1000 150 100 2"
+    in_window = "frame 1500 1000 points 1 primary 0 mode 1 origin 1\n0 750 500 75 50 2"
+
+    # A picture of 0 by 0 is given, and no missing one: 5 wherever the crop asks for its sides.
+    for cropped in (BOTH, WIDTH, HEIGHT):
+        block = position(crop(cropped))
+        yield script.load(block, None, None), as_recorded
+        for picture in ((0, 0), (0, 2000), (3000, 0)):
+            yield script.load(block, None, picture), 5
+    yield script.load(position(crop(BOTH)), None, BOTH), halved
+    # Nothing asks for them without a crop, or with a window.
+    yield script.load(position(), None, (0, 0)), as_recorded
+    yield script.load(position(crop(FRAME)), None, (0, 0)), as_recorded
+    yield script.load(position(crop(BOTH), area()), raw, (0, 0)), in_window
+
+    # A damaged CropArea is unusable: not absent, which would be as recorded or halved, and no window.
+    for kind in (3, 4):
+        damaged = area(kind, 4294967295)
+        for picture in (None, BOTH):
+            yield script.load(position(crop(BOTH), damaged), raw, picture), 5
+            yield script.load(position(crop(BOTH), damaged, area(kind)), raw, picture), 5
+        yield script.load(position(damaged), raw, None), as_recorded  # it is not asked for
+        yield script.load(position(crop(BOTH), area(kind)), raw, None), in_window
+
+    # The first entry of a tag counts, even if its type is wrong and that of the second is right.
+    for kind in (8, 9):
+        for picture in (None, BOTH):
+            yield script.load(position(crop(BOTH), area(kind), area()), raw, picture), 5
+            yield script.load(position(crop(BOTH), area(), area(kind)), raw, picture), in_window
+    for wrong in ((0x1B, 8, 7, crop(BOTH)[3]), (0x1B, 4, 7, readers.numbers("big", 4, 9, *FRAME, *BOTH, 0, 0))):
+        yield script.load(position(wrong, crop(BOTH)), None, BOTH), as_recorded
+        yield script.load(position(crop(BOTH), wrong), None, BOTH), halved
+    for wrong in (1, 2):
+        record = position()[-84:]
+        both = [(0xB7, wrong, 84, record), (0xB7, 7, 84, record)]
+        yield script.load(readers.block_of(both)), 2
+        yield script.load(readers.block_of(both[::-1])), as_recorded
+    for wrong in (1, 7):
+        both = [(0x07, wrong, 7, b"MANUAL\0"), (0x07, 2, 7, b"MANUAL\0")]
+        yield script.load(position(*both)), as_recorded
+        yield script.load(position(*both[::-1])), 3
+    # Or if it is damaged.
+    yield script.load(position((*crop(BOTH), 4294967295), crop(BOTH)), None, BOTH), as_recorded
+    yield script.load(position((0x07, 2, 7, b"", 4294967295), (0x07, 2, 7, b"MANUAL\0"))), as_recorded
+    yield script.load(position((0xB7, 7, 84, b"", 4294967295))), 4
+    yield script.load(position((0xB7, 1, 84, b"", 4294967295))), 2
+
+
 # The points of the load, and where a turn puts them: (x, y) at (4016 - y, x).
 LISTED = ("frame 6016 4016 points 3 primary 1 mode 3 origin 2\n"
           "1 3008 2007 164 164 0\n27 4203 2308 164 164 0\n38 1812 1705 164 164 0")
@@ -170,6 +243,12 @@ def pairs():
         yield line, answer
         yield script.LIST, None
     yield script.LIST, TURNED
+    shown = TURNED
+    for line, answer in edges():
+        yield line, "no %d" % answer if isinstance(answer, int) else "ok"
+        shown = shown if isinstance(answer, int) else answer
+        yield script.LIST, shown
+    yield from first_load()
     # Feeds alone, and a last line without one.
     for _ in range(5):
         yield b"", "no 14"

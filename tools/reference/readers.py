@@ -6,7 +6,8 @@
   readers.py --check             say whether the crate's files are these two
 
 A line of BLOCKS is a block in hexadecimal; one that starts with '#' is printed
-as it is. A block that can be read is answered by its byte order; each of the
+as it is. One that starts with '+' is the front of two blocks, with zeros behind
+it: one as long as a block may be, and one a byte longer. A block that can be read is answered by its byte order; each of the
 four tags with its first kept entry's type, count and value; manual focus; the
 crop; the crop area in raw data of 6016 by 4016 and without a raw size; the
 record or its number; and the contents, with all four places. The order of
@@ -22,6 +23,7 @@ import reference as ref
 import stored
 
 RAW = (6016, 4016)
+LONGEST = 1_048_576
 
 
 # ------------------------------------------------------- the expected lines
@@ -147,6 +149,7 @@ def text_block(text, kind=2):
 
 
 DX = (2, 6016, 4016, 3936, 2624, 1040, 696)
+AREA = (16, 8, 6000, 4000)
 
 
 def four_values(order):
@@ -191,6 +194,16 @@ def cases():
     yield "a tag twice, the first counts", block_of([(7, 2, 2, b"A\0"), (7, 2, 7, b"MANUAL\0")])
     yield "the first of the wrong type counts", block_of([(7, 7, 7, b"MANUAL\0"), (7, 2, 7, b"MANUAL\0")])
     yield "the first damaged counts", block_of([(7, 2, 7, b"", 4_294_967_295), (7, 2, 7, b"MANUAL\0")])
+    for tag, right, count, value, others in (
+        (0x1B, 3, 7, numbers("big", 2, *DX), {4: numbers("big", 4, *DX), 8: numbers("big", 2, *DX)}),
+        (0x45, 3, 4, numbers("big", 2, *AREA), {1: b"\0\0\1\1", 8: numbers("big", 2, *AREA), 9: numbers("big", 4, *AREA)}),
+        (0xB7, 7, 30, record(b"0100", 30), {1: record(b"0100", 30), 2: record(b"0100", 30)}),
+    ):
+        good = (tag, right, count, value)
+        for kind, wrong in others.items():
+            yield "tag %04X, the first of type %d counts" % (tag, kind), block_of([(tag, kind, count, wrong), good])
+        yield "tag %04X, the first counts, of the right type" % tag, block_of([good, (tag, kind, count, wrong)])
+        yield "tag %04X, the first damaged counts" % tag, block_of([(tag, right, count, b"", 4_294_967_295), good])
     yield "types 0, 14 and 65,535 are passed over", block_of(
         [(7, 0, 7, b"NOTHING"), (7, 14, 7, b"NOTHING"), (7, 65_535, 7, b"NOTHING"), (7, 2, 7, b"MANUAL\0")])
     yield "only passed-over types", block_of([(7, 14, 1, b"A"), (0xB7, 0, 1, b"A")])
@@ -249,6 +262,8 @@ def cases():
     yield "a sum that passes 32 bits", area(4, 4_294_967_295, 0, 2, 4016)
     yield "five numbers", area(3, 16, 8, 6000, 4000, 1, count=5)
     yield "bytes", block_of([(0x45, 1, 4, b"\0\0\1\1")])
+    for kind, after in ((3, 7), (4, 15)):
+        yield "damaged, by a byte, type %d" % kind, block_of([(0x45, kind, 4, b"", 22)], after=bytes(after))
 
     # records
     for version, layout in sorted(ref.LAYOUTS.items()):
@@ -269,16 +284,37 @@ def cases():
         yield "area mode (%d,%d)" % mode, recorded(b"0100", 30, mode=mode)
 
 
+def long_fronts():
+    """Fronts of blocks that are as long as a block may be, or a byte longer."""
+    end = LONGEST
+    for order in ("big", "little"):
+        # The first value ends with the shorter block, the second would end with the longer one.
+        yield "the longest block, and a byte more, %s-endian" % order, block_of(
+            [(7, 7, 6, b"", end - 6), (0x1B, 3, 7, b"", end - 13),
+             (0xB7, 7, 30, record(b"0100", 30, order))], order)
+    yield "a directory of no entries that ends with the longest block", b"MM\0*" + number(end - 2, 4, "big")
+    yield "one that would end with the block a byte longer", b"MM\0*" + number(end - 1, 4, "big")
+
+
 def blocks():
     for name, block in cases():
         yield "# %s\n" % name
         yield block.hex() + "\n"
+    for name, front in long_fronts():
+        yield "# %s\n" % name
+        yield "+" + front.hex() + "\n"
 
 
 def expected(lines):
     for line in lines:
         line = line.rstrip("\n")
-        yield (line if line.startswith("#") else answer(bytes.fromhex(line))) + "\n"
+        if line.startswith("#"):
+            yield line + "\n"
+        elif line.startswith("+"):
+            for length in (LONGEST, LONGEST + 1):
+                yield answer(bytes.fromhex(line[1:]).ljust(length, b"\0")) + "\n"
+        else:
+            yield answer(bytes.fromhex(line)) + "\n"
 
 
 def files():

@@ -3,7 +3,6 @@
 use Prim.Native.Nat.{ℕ, zero, suc, _+_, _*_, _-_, _/_, _%_, _<_, _≤_}
 use mathlib.Core.Bool.{Bool, true, false, cond}
 use mathlib.Core.List.{List, [], _∷_, _++_}
-use mathlib.Core.Logic.{_⊎_, inl, inr}
 use mathlib.Core.Path.{_≡_, refl, sym, ap, _∙_}
 use lib.Dec.{leb, eqb}
 use lib.ListN.{length, getD, take, drop, length-drop}
@@ -13,14 +12,13 @@ use native.Mathlib.Nat.{add-zero}
 use borrow.Author.Tests.{leb-true, eqb-true}
 use Rattle.numbers.specs.Numbers.{u16Of, u32Of}
 use Rattle.numbers.specs.declared.io.ByteOrder.the-variants.{Big}
-use Rattle.geometry.specs.declared.Size.{Size}
+use Rattle.reading.specs.Outcome.{Outcome, refused, accepted}
+use Rattle.reading.specs.declared.geometry.Size.{Size}
 use Rattle.laws.proofs.Tests.{by-cond, both}
 use Rattle.hex.specs.Hex.{sum, checks}
-use Rattle.hex.specs.Laws.{Bytes}
-use Rattle.calls.specs.declared.Call.{Call}
-use Rattle.calls.specs.declared.Call.the-variants.{Malformed, Load, Turn, Mirror, Back, ListPoints}
-use Rattle.calls.specs.Format.{ofLength, numberAt, sizeAt, sidesAgree, optional, hasRaw, hasPicture, flags, modelLength, isLoad, loadOf, cutOf, fitOf, contentsOf, byCode, callOf, modelPart, blockPart, contentsPart}
-use Rattle.calls.specs.Laws.{fourBytes, sizeBytes, isGiven, flagByte, sidesOf, body, checkOf, checked, Number, SizeNumbers, Encodable, modelGiven, blockGiven, Encodes, ReadIsEncoded}
+use Rattle.hex.specs.Laws.{AreBytes}
+use Rattle.calls.specs.Format.{LineCall, lineLoad, lineTurn, lineMirror, lineBack, lineList, ofLength, u32At, sidesAt, sidesAgree, optional, hasRaw, hasPicture, flags, modelLength, wellFormedLoad, loadCall, cutCall, fitCall, contentsCall, byCode, callOf, modelPart, blockPart, contentsPart, modelGiven, blockGiven}
+use Rattle.calls.specs.Laws.{fourBytes, sizeBytes, isGiven, flagByte, sidesOf, body, checkOf, checked, Number, SizeNumbers, Encodable, Encodes, EncodedOrMalformed, isMalformed, isEncoded, ReadIsEncoded}
 use Rattle.calls.proofs.Encoded.{sum-snoc}
 
 -- ---- a number
@@ -43,12 +41,12 @@ module _ (a b c d : ℕ) (ha : a < 256) (hb : b < 256) (hc : c < 256) (hd : d < 
   pub number-small : joined < 4294967296
   number-small = omega arith
 
-number-of : (s : List ℕ) → Bytes s → Number (u32Of Big s)
+number-of : (s : List ℕ) → AreBytes s → Number (u32Of Big s)
 unfolding u32Of u16Of
 number-of s h = number-small (getD s 0 0) (getD s 1 0) (getD (drop 2 s) 0 0) (getD (drop 2 s) 1 0) (h 0) (h 1)
     (rw (getD-drop 2 s 0 0) (h 2)) (rw (getD-drop 2 s 1 0) (h 3))
 
-four-of : (s : List ℕ) → Bytes s → 4 ≤ length s → fourBytes (u32Of Big s) ≡ take 4 s
+four-of : (s : List ℕ) → AreBytes s → 4 ≤ length s → fourBytes (u32Of Big s) ≡ take 4 s
 unfolding fourBytes u32Of u16Of
 four-of [] h l = absurd (omega arith)
 four-of (a ∷ []) h l = absurd (omega arith)
@@ -63,7 +61,7 @@ four-of (a ∷ b ∷ c ∷ d ∷ s) h l =
     )
 
 -- ---- the check
-module _ (b : List ℕ) (h : Bytes b) (some : 1 ≤ length b) where
+module _ (b : List ℕ) (h : AreBytes b) (some : 1 ≤ length b) where
   but-last : b ≡ take (length b - 1) b ++ getD b (length b - 1) 0 ∷ []
   but-last =
       let e : suc (length b - 1) ≡ length b = omega arith in
@@ -83,7 +81,7 @@ module _ (b : List ℕ) (h : Bytes b) (some : 1 ≤ length b) where
       rw y (sym z)
 
 -- ---- the parts at their places
-pub bytes-from : (b : List ℕ) → Bytes b → (n : ℕ) → Bytes (drop n b)
+pub bytes-from : (b : List ℕ) → AreBytes b → (n : ℕ) → AreBytes (drop n b)
 bytes-from b h n i = rw (getD-drop n b i 0) (h (n + i))
 
 -- one part more
@@ -96,18 +94,18 @@ one-at b at k l e =
     let z : 0 < length (drop at b) = omega (arith, length-drop at b) in
     rw (take-suc (drop at b) 0 0 z, getD-drop at b 0 0, add-zero at, e)
 
-module _ (b : List ℕ) (h : Bytes b) where
-  number-at : (at : ℕ) → at + 4 ≤ length b → fourBytes (numberAt b at) ≡ take 4 (drop at b)
-  number-at at l = four-of (drop at b) (bytes-from b h at) (omega (arith, length-drop at b))
+module _ (b : List ℕ) (h : AreBytes b) where
+  bytes-at : (at : ℕ) → at + 4 ≤ length b → fourBytes (u32At b at) ≡ take 4 (drop at b)
+  bytes-at at l = four-of (drop at b) (bytes-from b h at) (omega (arith, length-drop at b))
 
-  size-at : (at : ℕ) → at + 8 ≤ length b → sizeBytes (sizeAt b at) ≡ take 8 (drop at b)
-  unfolding sizeAt
-  size-at at l =
-      grow (drop at b) 4 4 (fourBytes (numberAt b at)) (fourBytes (numberAt b (at + 4))) (number-at at (omega arith))
-      (rw (drop-drop 4 at b) (number-at (at + 4) (omega arith)))
+  bytes-of-sides : (at : ℕ) → at + 8 ≤ length b → sizeBytes (sidesAt b at) ≡ take 8 (drop at b)
+  unfolding sidesAt
+  bytes-of-sides at l =
+      grow (drop at b) 4 4 (fourBytes (u32At b at)) (fourBytes (u32At b (at + 4))) (bytes-at at (omega arith))
+      (rw (drop-drop 4 at b) (bytes-at (at + 4) (omega arith)))
 
-  size-numbers : (at : ℕ) → SizeNumbers (sizeAt b at)
-  unfolding sizeAt
+  size-numbers : (at : ℕ) → SizeNumbers (sidesAt b at)
+  unfolding sidesAt
   size-numbers at = (number-of (drop at b) (bytes-from b h at), number-of (drop (at + 4) b) (bytes-from b h (at + 4)))
 
 -- ---- a load's flags and sizes
@@ -134,17 +132,14 @@ flags-are (suc (suc (suc zero))) h = refl
 flags-are (suc (suc (suc (suc f)))) h = absurd (omega arith)
 
 -- ---- a line whose check is right
-abbrev Told : List ℕ → Call → Type 0
-Told b x = (x ≡ Malformed) ⊎ Encodes b x
+-- where a test decides between a call and a malformed line
+if-so : (b : List ℕ) (t : Bool) {x : LineCall} → (t ≡ true → Encodes b x) → EncodedOrMalformed b (cond t (accepted x) (refused 14))
+if-so b t f = by-cond (EncodedOrMalformed b) t (λ e. isEncoded (f e)) (λ e. isMalformed)
 
--- where a test decides between a call and Malformed
-if-so : (b : List ℕ) (t : Bool) {x : Call} → (t ≡ true → Encodes b x) → Told b (cond t x Malformed)
-if-so b t f = by-cond (Told b) t (λ e. inr (f e)) (λ e. inl refl)
-
-module _ (b : List ℕ) (h : Bytes b) (right : checks b ≡ true) where
+module _ (b : List ℕ) (h : AreBytes b) (right : checks b ≡ true) where
   -- turn, mirror, back and list: a call that is its code alone
-  plain : (x : Call) (k : ℕ) → Encodable x (modelGiven x b) (blockGiven x b) → body x (modelGiven x b) (blockGiven x b) ≡ k ∷ [] → k ≡ getD b 0 0
-      → Told b (ofLength 2 b x)
+  plain : (x : LineCall) (k : ℕ) → Encodable x (modelGiven x b) (blockGiven x b) → body x (modelGiven x b) (blockGiven x b) ≡ k ∷ [] → k ≡ getD b 0 0
+      → EncodedOrMalformed b (ofLength 2 b (accepted x))
   plain x k can e c =
       if-so b (eqb (length b) 2)
       (λ t.
@@ -153,17 +148,17 @@ module _ (b : List ℕ) (h : Bytes b) (right : checks b ≡ true) where
 
   -- a cut
   cut-body : (k : ℕ) → k ≡ getD b 0 0 → length b ≡ 18
-      → k ∷ [] ++ fourBytes (numberAt b 1) ++ fourBytes (numberAt b 5) ++ fourBytes (numberAt b 9) ++ fourBytes (numberAt b 13)
+      → k ∷ [] ++ fourBytes (u32At b 1) ++ fourBytes (u32At b 5) ++ fourBytes (u32At b 9) ++ fourBytes (u32At b 13)
       ≡ take 17 b
   cut-body k c l =
       grow b 13 4 _ _
       (grow b 9 4 _ _
-      (grow b 5 4 _ _ (grow b 1 4 _ _ (one-at b 0 k (omega arith) c) (number-at b h 1 (omega arith))) (number-at b h 5 (omega arith)))
-      (number-at b h 9 (omega arith)))
-      (number-at b h 13 (omega arith))
+      (grow b 5 4 _ _ (grow b 1 4 _ _ (one-at b 0 k (omega arith) c) (bytes-at b h 1 (omega arith))) (bytes-at b h 5 (omega arith)))
+      (bytes-at b h 9 (omega arith)))
+      (bytes-at b h 13 (omega arith))
 
-  cut : 2 ≡ getD b 0 0 → Told b (cutOf b)
-  unfolding cutOf body
+  cut : 2 ≡ getD b 0 0 → EncodedOrMalformed b (cutCall b)
+  unfolding cutCall body
   cut c =
       if-so b (eqb (length b) 18)
       (λ e.
@@ -180,11 +175,11 @@ module _ (b : List ℕ) (h : Bytes b) (right : checks b ≡ true) where
       })
 
   -- a fit
-  fit-body : (k : ℕ) → k ≡ getD b 0 0 → length b ≡ 10 → k ∷ [] ++ sizeBytes (sizeAt b 1) ≡ take 9 b
-  fit-body k c l = grow b 1 8 _ _ (one-at b 0 k (omega arith) c) (size-at b h 1 (omega arith))
+  fit-body : (k : ℕ) → k ≡ getD b 0 0 → length b ≡ 10 → k ∷ [] ++ sizeBytes (sidesAt b 1) ≡ take 9 b
+  fit-body k c l = grow b 1 8 _ _ (one-at b 0 k (omega arith) c) (bytes-of-sides b h 1 (omega arith))
 
-  fit : 7 ≡ getD b 0 0 → Told b (fitOf b)
-  unfolding fitOf body
+  fit : 7 ≡ getD b 0 0 → EncodedOrMalformed b (fitCall b)
+  unfolding fitCall body
   fit c =
       if-so b (eqb (length b) 10)
       (λ e.
@@ -198,8 +193,8 @@ module _ (b : List ℕ) (h : Bytes b) (right : checks b ≡ true) where
       let e : length b - 1 ≡ 1 + (length b - 2) = omega arith in
       rw e (grow b 1 (length b - 2) _ _ (one-at b 0 k (omega arith) c) refl)
 
-  contents : 8 ≡ getD b 0 0 → Told b (contentsOf b)
-  unfolding contentsOf body
+  contents : 8 ≡ getD b 0 0 → EncodedOrMalformed b (contentsCall b)
+  unfolding contentsCall body
   contents c =
       if-so b (leb 2 (length b))
       (λ e.
@@ -212,7 +207,7 @@ module _ (b : List ℕ) (h : Bytes b) (right : checks b ≡ true) where
     unfolding modelPart
     model-long = length-take-le (modelLength b) (drop 19 b) (omega (arith, length-drop 19 b))
 
-    load-front : (f n : ℕ) (s t : Size) → f ≡ flags b → s ≡ sizeAt b 2 → t ≡ sizeAt b 10 → n ≡ modelLength b
+    load-front : (f n : ℕ) (s t : Size) → f ≡ flags b → s ≡ sidesAt b 2 → t ≡ sidesAt b 10 → n ≡ modelLength b
         → 1 ∷ f ∷ [] ++ sizeBytes s ++ sizeBytes t ++ n ∷ [] ≡ take 19 b
     load-front f n s t ef es et en =
         rw (es, et)
@@ -220,8 +215,8 @@ module _ (b : List ℕ) (h : Bytes b) (right : checks b ≡ true) where
         (grow b 10 8 _ _
         (grow b 2 8 _ _
         (grow b 1 1 (1 ∷ []) (f ∷ []) (one-at b 0 1 (omega arith) c) (one-at b 1 f (omega arith) ef))
-        (size-at b h 2 (omega arith)))
-        (size-at b h 10 (omega arith)))
+        (bytes-of-sides b h 2 (omega arith)))
+        (bytes-of-sides b h 10 (omega arith)))
         (one-at b 18 n (omega arith) en))
 
     load-body : (x : List ℕ) → x ≡ take 19 b → x ++ modelPart b ++ blockPart b ≡ take (length b - 1) b
@@ -231,41 +226,41 @@ module _ (b : List ℕ) (h : Bytes b) (right : checks b ≡ true) where
         rw l
         (grow b (19 + modelLength b) (length b - (20 + modelLength b)) _ _ (grow b 19 (modelLength b) _ _ e refl) refl)
 
-    load-encodes : flags b ≤ 3 → sidesAgree (hasRaw b) (sizeAt b 2) ≡ true → sidesAgree (hasPicture b) (sizeAt b 10) ≡ true
-        → Encodes b (Load (optional (hasRaw b) (sizeAt b 2)) (optional (hasPicture b) (sizeAt b 10)))
+    load-encodes : flags b ≤ 3 → sidesAgree (hasRaw b) (sidesAt b 2) ≡ true → sidesAgree (hasPicture b) (sidesAt b 10) ≡ true
+        → Encodes b (lineLoad (optional (hasRaw b) (sidesAt b 2)) (optional (hasPicture b) (sidesAt b 10)))
     unfolding body
     load-encodes few raw picture =
-        let es : sidesOf (optional (hasRaw b) (sizeAt b 2)) ≡ sizeAt b 2 = sides-are (hasRaw b) (sizeAt b 2) raw in
-        let et : sidesOf (optional (hasPicture b) (sizeAt b 10)) ≡ sizeAt b 10 = sides-are (hasPicture b) (sizeAt b 10) picture in
-        let ef : flagByte (optional (hasRaw b) (sizeAt b 2)) (optional (hasPicture b) (sizeAt b 10)) ≡ flags b =
-        rw (given-is (hasRaw b) (sizeAt b 2), given-is (hasPicture b) (sizeAt b 10)) (flags-are (flags b) few) in
+        let es : sidesOf (optional (hasRaw b) (sidesAt b 2)) ≡ sidesAt b 2 = sides-are (hasRaw b) (sidesAt b 2) raw in
+        let et : sidesOf (optional (hasPicture b) (sidesAt b 10)) ≡ sidesAt b 10 = sides-are (hasPicture b) (sidesAt b 10) picture in
+        let ef : flagByte (optional (hasRaw b) (sidesAt b 2)) (optional (hasPicture b) (sidesAt b 10)) ≡ flags b =
+        rw (given-is (hasRaw b) (sidesAt b 2), given-is (hasPicture b) (sidesAt b 10)) (flags-are (flags b) few) in
         record {
           can-be = (rw es (size-numbers b h 2), rw et (size-numbers b h 10), rw model-long (h 18));
           so = whole b h (omega arith) right _ (load-body _ (load-front _ _ _ _ ef es et model-long));
         }
 
-  load : 1 ≡ getD b 0 0 → Told b (loadOf b)
-  unfolding loadOf isLoad
+  load : 1 ≡ getD b 0 0 → EncodedOrMalformed b (loadCall b)
+  unfolding loadCall wellFormedLoad
   load c =
-      if-so b (isLoad b)
+      if-so b (wellFormedLoad b)
       (λ e.
       let x = both (leb (20 + modelLength b) (length b)) _ e in
       let y = both (leb (flags b) 3) _ (x .1) in
-      let z = both (sidesAgree (hasRaw b) (sizeAt b 2)) _ (y .1) in
+      let z = both (sidesAgree (hasRaw b) (sidesAt b 2)) _ (y .1) in
       load-encodes c (leb-true (20 + modelLength b) (length b) (x .0)) (leb-true (flags b) 3 (y .0)) (z .0) (z .1))
 
   -- ---- every code
-  coded : (k : ℕ) → k ≡ getD b 0 0 → Told b (byCode k b)
+  coded : (k : ℕ) → k ≡ getD b 0 0 → EncodedOrMalformed b (byCode k b)
   unfolding byCode body
   coded k c =
       arm 1 load (arm 2 cut
-      (arm 3 (plain Turn 3 (refl, refl) refl) (arm 4 (plain Mirror 4 (refl, refl) refl)
-      (arm 5 (plain Back 5 (refl, refl) refl) (arm 6 (plain ListPoints 6 (refl, refl) refl)
-      (arm 7 fit (arm 8 contents (inl refl))))))))
+      (arm 3 (plain lineTurn 3 (refl, refl) refl) (arm 4 (plain lineMirror 4 (refl, refl) refl)
+      (arm 5 (plain lineBack 5 (refl, refl) refl) (arm 6 (plain lineList 6 (refl, refl) refl)
+      (arm 7 fit (arm 8 contents isMalformed)))))))
     where
-      arm : (n : ℕ) {x y : Call} → (n ≡ getD b 0 0 → Told b x) → Told b y → Told b (cond (eqb k n) x y)
-      arm n f g = by-cond (Told b) (eqb k n) (λ e. f (sym (eqb-true k n e) ∙ c)) (λ e. g)
+      arm : (n : ℕ) {x y : Outcome LineCall} → (n ≡ getD b 0 0 → EncodedOrMalformed b x) → EncodedOrMalformed b y → EncodedOrMalformed b (cond (eqb k n) x y)
+      arm n f g = by-cond (EncodedOrMalformed b) (eqb k n) (λ e. f (sym (eqb-true k n e) ∙ c)) (λ e. g)
 
 pub read-is-encoded : ReadIsEncoded
 unfolding callOf
-read-is-encoded b h = by-cond (Told b) (checks b) (λ e. coded b h e (getD b 0 0) refl) (λ e. inl refl)
+read-is-encoded b h = by-cond (EncodedOrMalformed b) (checks b) (λ e. coded b h e (getD b 0 0) refl) (λ e. isMalformed)

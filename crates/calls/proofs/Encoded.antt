@@ -12,14 +12,13 @@ use native.Mathlib.Omega.{arith}
 use borrow.Author.Tests.{le-leb, leb-true, eq-eqb}
 use Rattle.numbers.specs.Numbers.{u16Of, u32Of}
 use Rattle.numbers.specs.declared.io.ByteOrder.the-variants.{Big}
-use Rattle.geometry.specs.declared.Size.{Size}
-use Rattle.geometry.specs.declared.OptionalSize.{OptionalSize}
-use Rattle.geometry.specs.declared.OptionalSize.the-variants.{Missing, Given}
+use Rattle.reading.specs.Outcome.{Outcome, accepted}
+use Rattle.reading.specs.declared.geometry.Size.{Size}
+use Rattle.reading.specs.declared.geometry.OptionalSize.{OptionalSize}
+use Rattle.reading.specs.declared.geometry.OptionalSize.the-variants.{Missing, Given}
 use Rattle.hex.specs.Hex.{sum, checks}
-use Rattle.hex.specs.Laws.{Bytes}
-use Rattle.calls.specs.declared.Call.{Call}
-use Rattle.calls.specs.declared.Call.the-variants.{Malformed, Load, Cut, Turn, Mirror, Back, ListPoints, Fit, Contents}
-use Rattle.calls.specs.Format.{ofLength, sizeAt, flags, modelLength, sidesAgree, optional, isLoad, loadOf, byCode, callOf, modelPart, blockPart, contentsPart}
+use Rattle.hex.specs.Laws.{AreBytes}
+use Rattle.calls.specs.Format.{LineCall, lineLoad, lineCut, lineTurn, lineMirror, lineBack, lineList, lineFit, lineContents, ofLength, sidesAt, flags, modelLength, sidesAgree, optional, wellFormedLoad, loadCall, byCode, callOf, modelPart, blockPart, contentsPart}
 use Rattle.calls.specs.Laws.{fourBytes, sizeBytes, isGiven, flagByte, sidesOf, body, checkOf, checked, encoded, Number, SizeNumbers, Encodable, ReadBack, EncodedIsRead, EncodedIsBytes}
 use Rattle.calls.proofs.Laws as laws
 
@@ -37,8 +36,8 @@ check-right : (s : List ℕ) → checks (checked s) ≡ true
 unfolding checked checkOf
 check-right s = eq-eqb (sum (s ++ checkOf s ∷ []) % 256) 0 (omega (arith, sum-snoc s (checkOf s)))
 
--- a encoded line is read by its code
-by-its-code : (s : List ℕ) (x : Call) → byCode (getD (checked s) 0 0) (checked s) ≡ x → callOf (checked s) ≡ x
+-- an encoded line is read by its code
+by-its-code : (s : List ℕ) (x : Outcome LineCall) → byCode (getD (checked s) 0 0) (checked s) ≡ x → callOf (checked s) ≡ x
 unfolding callOf
 by-its-code s x e = rw (check-right s) e
 
@@ -58,7 +57,7 @@ number-back n r h =
     (joined n (n / 256) (n / 256 / 256) (n / 256 / 256 / 256) (n % 256) (n / 256 % 256) (n / 256 / 256 % 256)
     (omega arith) (omega arith) (omega arith))
 
-size-back : (b : List ℕ) (at : ℕ) (s : Size) (r : List ℕ) → SizeNumbers s → drop at b ≡ sizeBytes s ++ r → s ≡ sizeAt b at
+size-back : (b : List ℕ) (at : ℕ) (s : Size) (r : List ℕ) → SizeNumbers s → drop at b ≡ sizeBytes s ++ r → s ≡ sidesAt b at
 unfolding fourBytes
 size-back b at s r h e =
     laws.two-sides b (drop at b) at (s .width) (s .height)
@@ -67,36 +66,36 @@ size-back b at s r h e =
     (sym (ap (λ (l : List ℕ). u32Of Big (drop 4 l)) e ∙ number-back (s .height) r (h .1)))
 
 -- ---- calls of a fixed length
-two-bytes : (k : ℕ) (x : Call) → ((b : List ℕ) → byCode k b ≡ ofLength 2 b x) → callOf (checked (k ∷ [])) ≡ x
+two-bytes : (k : ℕ) (x : LineCall) → ((b : List ℕ) → byCode k b ≡ ofLength 2 b (accepted x)) → callOf (checked (k ∷ [])) ≡ accepted x
 unfolding checked
-two-bytes k x e = by-its-code (k ∷ []) x (e (k ∷ checkOf (k ∷ []) ∷ []))
+two-bytes k x e = by-its-code (k ∷ []) (accepted x) (e (k ∷ checkOf (k ∷ []) ∷ []))
 
 module _ (left top width height : ℕ) (hl : Number left) (ht : Number top) (hw : Number width) (hh : Number height) where
-  cut-back : callOf (encoded (Cut left top width height) [] []) ≡ Cut left top width height
+  cut-back : callOf (encoded (lineCut left top width height) [] []) ≡ accepted (lineCut left top width height)
   unfolding body checked byCode fourBytes
   cut-back =
-      let s = body (Cut left top width height) [] [] in
+      let s = body (lineCut left top width height) [] [] in
       let z : List ℕ = checkOf s ∷ [] in
-      by-its-code s (Cut left top width height)
-      (sym (laws.cut (checked s) left top width height (Cut left top width height)
+      by-its-code s (accepted (lineCut left top width height))
+      (sym (laws.cut (checked s) left top width height (accepted (lineCut left top width height))
       (sym (number-back left (fourBytes top ++ fourBytes width ++ fourBytes height ++ z) hl))
       (sym (number-back top (fourBytes width ++ fourBytes height ++ z) ht))
       (sym (number-back width (fourBytes height ++ z) hw))
       (sym (number-back height z hh))
       refl))
 
-fit-back : (s : Size) → SizeNumbers s → callOf (encoded (Fit s) [] []) ≡ Fit s
+fit-back : (s : Size) → SizeNumbers s → callOf (encoded (lineFit s) [] []) ≡ accepted (lineFit s)
 unfolding body checked byCode fourBytes
 fit-back s h =
-    let t = body (Fit s) [] [] in
-    by-its-code t (Fit s) (sym (laws.fit (checked t) s (Fit s) (size-back (checked t) 1 s (checkOf t ∷ []) h refl) refl))
+    let t = body (lineFit s) [] [] in
+    by-its-code t (accepted (lineFit s)) (sym (laws.fit (checked t) s (accepted (lineFit s)) (size-back (checked t) 1 s (checkOf t ∷ []) h refl) refl))
 
 -- ---- contents
 module _ (k : List ℕ) where
-  contents-back : callOf (encoded Contents [] k) ≡ Contents
+  contents-back : callOf (encoded lineContents [] k) ≡ accepted lineContents
   unfolding body checked byCode
   contents-back =
-      by-its-code (8 ∷ k) Contents
+      by-its-code (8 ∷ k) (accepted lineContents)
       (sym (laws.contents-yes (checked (8 ∷ k)) (omega (arith, length-append k (checkOf (8 ∷ k) ∷ [])))))
 
   contents-block : (c : ℕ) → contentsPart (8 ∷ k ++ c ∷ []) ≡ k
@@ -135,9 +134,9 @@ flag-picture Missing (Given t) = refl
 flag-picture (Given s) Missing = refl
 flag-picture (Given s) (Given t) = refl
 
-load-of : (b : List ℕ) (o p : OptionalSize) → 20 + modelLength b ≤ length b → flags b ≡ flagByte o p → sizeAt b 2 ≡ sidesOf o → sizeAt b 10 ≡ sidesOf p
-    → loadOf b ≡ Load o p
-unfolding loadOf isLoad
+load-of : (b : List ℕ) (o p : OptionalSize) → 20 + modelLength b ≤ length b → flags b ≡ flagByte o p → sidesAt b 2 ≡ sidesOf o → sidesAt b 10 ≡ sidesOf p
+    → loadCall b ≡ accepted (lineLoad o p)
+unfolding loadCall wellFormedLoad
 load-of b o p l f s t =
     rw (
       le-leb (20 + modelLength b) (length b) l,
@@ -188,25 +187,25 @@ module _ (f : ℕ) (s t : Size) (m k : List ℕ) (c : ℕ) where
   unfolding fourBytes
   the-flags = refl
 
-  first-size : SizeNumbers s → sizeAt line 2 ≡ s
+  first-size : SizeNumbers s → sidesAt line 2 ≡ s
   unfolding fourBytes
   first-size h = sym (size-back line 2 s (sizeBytes t ++ length m ∷ [] ++ m ++ k ++ c ∷ []) h refl)
 
-  second-size : SizeNumbers t → sizeAt line 10 ≡ t
+  second-size : SizeNumbers t → sidesAt line 10 ≡ t
   unfolding fourBytes
   second-size h = sym (size-back line 10 t (length m ∷ [] ++ m ++ k ++ c ∷ []) h refl)
 
-  line-load : (o p : OptionalSize) → f ≡ flagByte o p → s ≡ sidesOf o → t ≡ sidesOf p → SizeNumbers s → SizeNumbers t → loadOf line ≡ Load o p
+  line-load : (o p : OptionalSize) → f ≡ flagByte o p → s ≡ sidesOf o → t ≡ sidesOf p → SizeNumbers s → SizeNumbers t → loadCall line ≡ accepted (lineLoad o p)
   line-load o p ef es et hs ht =
       load-of line o p (omega (arith, model-length, line-long)) (the-flags ∙ ef) (first-size hs ∙ es) (second-size ht ∙ et)
 
 load-back : (o p : OptionalSize) (m k : List ℕ) → SizeNumbers (sidesOf o) → SizeNumbers (sidesOf p)
-    → ReadBack (Load o p) m k (encoded (Load o p) m k)
+    → ReadBack (lineLoad o p) m k (encoded (lineLoad o p) m k)
 unfolding body checked byCode
 load-back o p m k ho hp =
-    let s = body (Load o p) m k in
+    let s = body (lineLoad o p) m k in
     record {
-      the-call = by-its-code s (Load o p) (line-load (flagByte o p) (sidesOf o) (sidesOf p) m k (checkOf s) o p refl refl refl ho hp);
+      the-call = by-its-code s (accepted (lineLoad o p)) (line-load (flagByte o p) (sidesOf o) (sidesOf p) m k (checkOf s) o p refl refl refl ho hp);
       the-model = load-model (flagByte o p) (sidesOf o) (sidesOf p) m k (checkOf s);
       the-block = load-block (flagByte o p) (sidesOf o) (sidesOf p) m k (checkOf s);
     }
@@ -214,25 +213,24 @@ load-back o p m k ho hp =
 -- ---- every call
 pub encoded-is-read : EncodedIsRead
 unfolding body checked byCode
-encoded-is-read Malformed m k h = absurd h
-encoded-is-read (Load o p) m k h = load-back o p m k (h .0) (h .1)
-encoded-is-read (Cut left top width height) m k h =
+encoded-is-read (lineLoad o p) m k h = load-back o p m k (h .0) (h .1)
+encoded-is-read (lineCut left top width height) m k h =
     record {
       the-call = cut-back left top width height (h .0) (h .1) (h .2) (h .3);
       the-model = sym (h .4 .0);
       the-block = sym (h .4 .1);
     }
-encoded-is-read Turn m k h =
-    record { the-call = two-bytes 3 Turn (λ b. refl); the-model = sym (h .0); the-block = sym (h .1) }
-encoded-is-read Mirror m k h =
-    record { the-call = two-bytes 4 Mirror (λ b. refl); the-model = sym (h .0); the-block = sym (h .1) }
-encoded-is-read Back m k h =
-    record { the-call = two-bytes 5 Back (λ b. refl); the-model = sym (h .0); the-block = sym (h .1) }
-encoded-is-read ListPoints m k h =
-    record { the-call = two-bytes 6 ListPoints (λ b. refl); the-model = sym (h .0); the-block = sym (h .1) }
-encoded-is-read (Fit s) m k h =
+encoded-is-read lineTurn m k h =
+    record { the-call = two-bytes 3 lineTurn (λ b. refl); the-model = sym (h .0); the-block = sym (h .1) }
+encoded-is-read lineMirror m k h =
+    record { the-call = two-bytes 4 lineMirror (λ b. refl); the-model = sym (h .0); the-block = sym (h .1) }
+encoded-is-read lineBack m k h =
+    record { the-call = two-bytes 5 lineBack (λ b. refl); the-model = sym (h .0); the-block = sym (h .1) }
+encoded-is-read lineList m k h =
+    record { the-call = two-bytes 6 lineList (λ b. refl); the-model = sym (h .0); the-block = sym (h .1) }
+encoded-is-read (lineFit s) m k h =
     record { the-call = fit-back s (h .0); the-model = sym (h .1 .0); the-block = sym (h .1 .1) }
-encoded-is-read Contents m k h =
+encoded-is-read lineContents m k h =
     record {
       the-call = contents-back k;
       the-model = sym h;
@@ -241,12 +239,12 @@ encoded-is-read Contents m k h =
 
 -- ---- bytes
 record All (b : List ℕ) : Type 0 where
-  pub each : Bytes b
+  pub each : AreBytes b
 
 bytes-cons : (x : ℕ) (xs : List ℕ) → x < 256 → All xs → All (x ∷ xs)
 bytes-cons x xs h g = record { each = each-cons }
   where
-    each-cons : Bytes (x ∷ xs)
+    each-cons : AreBytes (x ∷ xs)
     each-cons zero = h
     each-cons (suc i) = g .each i
 
@@ -271,10 +269,9 @@ bytes-checked : (s : List ℕ) → All s → All (checked s)
 unfolding checked checkOf
 bytes-checked s h = bytes-append s _ h (one-byte (checkOf s) (omega arith))
 
-all-bytes : (x : Call) (m k : List ℕ) → Encodable x m k → All m → All k → All (encoded x m k)
+all-bytes : (x : LineCall) (m k : List ℕ) → Encodable x m k → All m → All k → All (encoded x m k)
 unfolding body
-all-bytes Malformed m k h hm hk = absurd h
-all-bytes (Load o p) m k h hm hk =
+all-bytes (lineLoad o p) m k h hm hk =
     bytes-checked _
     (bytes-append _ _
     (bytes-append _ _
@@ -287,19 +284,19 @@ all-bytes (Load o p) m k h hm hk =
     (one-byte (length m) (h .2)))
     hm)
     hk)
-all-bytes (Cut left top width height) m k h hm hk =
+all-bytes (lineCut left top width height) m k h hm hk =
     bytes-checked _
     (bytes-append _ _
     (bytes-append _ _
     (bytes-append _ _ (bytes-append _ _ (one-byte 2 (omega arith)) (bytes-four left)) (bytes-four top))
     (bytes-four width))
     (bytes-four height))
-all-bytes Turn m k h hm hk = bytes-checked _ (one-byte 3 (omega arith))
-all-bytes Mirror m k h hm hk = bytes-checked _ (one-byte 4 (omega arith))
-all-bytes Back m k h hm hk = bytes-checked _ (one-byte 5 (omega arith))
-all-bytes ListPoints m k h hm hk = bytes-checked _ (one-byte 6 (omega arith))
-all-bytes (Fit s) m k h hm hk = bytes-checked _ (bytes-append _ _ (one-byte 7 (omega arith)) (bytes-size s))
-all-bytes Contents m k h hm hk = bytes-checked _ (bytes-append _ _ (one-byte 8 (omega arith)) hk)
+all-bytes lineTurn m k h hm hk = bytes-checked _ (one-byte 3 (omega arith))
+all-bytes lineMirror m k h hm hk = bytes-checked _ (one-byte 4 (omega arith))
+all-bytes lineBack m k h hm hk = bytes-checked _ (one-byte 5 (omega arith))
+all-bytes lineList m k h hm hk = bytes-checked _ (one-byte 6 (omega arith))
+all-bytes (lineFit s) m k h hm hk = bytes-checked _ (bytes-append _ _ (one-byte 7 (omega arith)) (bytes-size s))
+all-bytes lineContents m k h hm hk = bytes-checked _ (bytes-append _ _ (one-byte 8 (omega arith)) hk)
 
 pub encoded-is-bytes : EncodedIsBytes
 encoded-is-bytes x m k h hm hk = all-bytes x m k h (record { each = hm }) (record { each = hk }) .each

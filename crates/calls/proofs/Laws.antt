@@ -10,21 +10,20 @@ use lib.Seq.{drop-drop}
 use borrow.Author.Tests.{le-leb, lt-leb, eq-eqb, ne-eqb, not-true, not-false}
 use Rattle.numbers.specs.Numbers.{u32Of}
 use Rattle.numbers.specs.declared.io.ByteOrder.the-variants.{Big}
-use Rattle.geometry.specs.declared.Size.{Size}
-use Rattle.geometry.specs.declared.OptionalSize.{OptionalSize}
-use Rattle.geometry.specs.declared.OptionalSize.the-variants.{Missing, Given}
+use Rattle.reading.specs.Outcome.{Outcome, refused, accepted}
+use Rattle.reading.specs.declared.geometry.Size.{Size}
+use Rattle.reading.specs.declared.geometry.OptionalSize.{OptionalSize}
+use Rattle.reading.specs.declared.geometry.OptionalSize.the-variants.{Missing, Given}
 use Rattle.hex.specs.Hex.{checks}
-use Rattle.calls.specs.declared.Call.{Call}
-use Rattle.calls.specs.declared.Call.the-variants.{Malformed, Load, Cut, Fit, Contents}
-use Rattle.calls.specs.Format.{numberAt, sizeAt, sidesAgree, optional, isLoad, loadOf, ofLength, cutOf, fitOf, contentsOf, byCode, callOf, modelPart, blockPart, contentsPart}
+use Rattle.calls.specs.Format.{LineCall, lineLoad, lineCut, lineFit, lineContents, u32At, sidesAt, sidesAgree, optional, wellFormedLoad, loadCall, ofLength, cutCall, fitCall, contentsCall, byCode, callOf, modelPart, blockPart, contentsPart}
 
 -- ---- numbers and sizes
-pub number : (b t : List ℕ) (at n : ℕ) → t ≡ drop at b → n ≡ u32Of Big t → n ≡ numberAt b at
+pub number : (b t : List ℕ) (at n : ℕ) → t ≡ drop at b → n ≡ u32Of Big t → n ≡ u32At b at
 number b t at n e f = f ∙ ap (u32Of Big) e
 
-pub two-sides : (b t : List ℕ) (at w h : ℕ) → w ≡ numberAt b at → t ≡ drop at b → h ≡ numberAt t 4
-    → _≡_ {A = Size} record { width = w; height = h } (sizeAt b at)
-unfolding sizeAt
+pub two-sides : (b t : List ℕ) (at w h : ℕ) → w ≡ u32At b at → t ≡ drop at b → h ≡ u32At t 4
+    → _≡_ {A = Size} record { width = w; height = h } (sidesAt b at)
+unfolding sidesAt
 two-sides b t at w h ew et eh = rw (← ew, ← drop-drop 4 at b, ← et, ← eh)
 
 module _ (s : Size) where
@@ -50,66 +49,66 @@ module _ (s : Size) where
 
 -- ---- a load
 module _ (b : List ℕ) (f m : ℕ) (ef : f ≡ getD b 1 0) (em : m ≡ getD b 18 0) where
-  pub load-short : length b < 20 + m → false ≡ isLoad b
-  unfolding isLoad
+  pub load-short : length b < 20 + m → false ≡ wellFormedLoad b
+  unfolding wellFormedLoad
   load-short h = rw (← em, lt-leb (20 + m) (length b) h)
 
   module _ (h : 20 + m ≤ length b) where
-    pub load-flags : 3 < f → false ≡ isLoad b
-    unfolding isLoad
+    pub load-flags : 3 < f → false ≡ wellFormedLoad b
+    unfolding wellFormedLoad
     load-flags k = rw (← em, le-leb (20 + m) (length b) h, ← ef, lt-leb f 3 k)
 
-    module _ (k : f ≤ 3) (s : Size) (es : s ≡ sizeAt b 2) (r : Bool) (er : r ≡ sidesAgree (eqb (f % 2) 1) s) where
-      pub load-raw : not r ≡ true → false ≡ isLoad b
-      unfolding isLoad
+    module _ (k : f ≤ 3) (s : Size) (es : s ≡ sidesAt b 2) (r : Bool) (er : r ≡ sidesAgree (eqb (f % 2) 1) s) where
+      pub load-raw : not r ≡ true → false ≡ wellFormedLoad b
+      unfolding wellFormedLoad
       load-raw n = rw (← em, le-leb (20 + m) (length b) h, ← ef, le-leb f 3 k, ← es, ← er, not-true r n)
 
-      pub load-picture : not r ≡ false → (t : Size) → t ≡ sizeAt b 10 → (q : Bool) → q ≡ sidesAgree (leb 2 f) t → q ≡ isLoad b
-      unfolding isLoad
+      pub load-picture : not r ≡ false → (t : Size) → t ≡ sidesAt b 10 → (q : Bool) → q ≡ sidesAgree (leb 2 f) t → q ≡ wellFormedLoad b
+      unfolding wellFormedLoad
       load-picture n t et q eq =
           rw (← em, le-leb (20 + m) (length b) h, ← ef, le-leb f 3 k, ← es, ← er, not-false r n, ← et, ← eq)
 
-module _ (b : List ℕ) (r : Bool) (er : r ≡ isLoad b) where
-  pub load-no : not r ≡ true → Malformed ≡ loadOf b
-  unfolding loadOf
+module _ (b : List ℕ) (r : Bool) (er : r ≡ wellFormedLoad b) where
+  pub load-no : not r ≡ true → refused 14 ≡ loadCall b
+  unfolding loadCall
   load-no n = rw (← er, not-true r n)
 
-  pub load-yes : not r ≡ false → (f : ℕ) → f ≡ getD b 1 0 → (s t : Size) → s ≡ sizeAt b 2 → t ≡ sizeAt b 10
-      → (o p : OptionalSize) → o ≡ optional (eqb (f % 2) 1) s → p ≡ optional (leb 2 f) t → Load o p ≡ loadOf b
-  unfolding loadOf
+  pub load-yes : not r ≡ false → (f : ℕ) → f ≡ getD b 1 0 → (s t : Size) → s ≡ sidesAt b 2 → t ≡ sidesAt b 10
+      → (o p : OptionalSize) → o ≡ optional (eqb (f % 2) 1) s → p ≡ optional (leb 2 f) t → accepted (lineLoad o p) ≡ loadCall b
+  unfolding loadCall
   load-yes n f ef s t es et o p eo ep = rw (← er, not-false r n, ← ef, ← es, ← et, ← eo, ← ep)
 
 -- ---- calls of a fixed length, and contents
-pub length-is : (n : ℕ) (b : List ℕ) (x : Call) → length b ≡ n → x ≡ ofLength n b x
+pub length-is : (n : ℕ) (b : List ℕ) (x : Outcome LineCall) → length b ≡ n → x ≡ ofLength n b x
 length-is n b x h = rw (eq-eqb (length b) n h)
 
-pub length-differs : (n : ℕ) (b : List ℕ) (x : Call) → (length b ≡ n → ⊥) → Malformed ≡ ofLength n b x
+pub length-differs : (n : ℕ) (b : List ℕ) (x : Outcome LineCall) → (length b ≡ n → ⊥) → refused 14 ≡ ofLength n b x
 length-differs n b x h = rw (ne-eqb (length b) n h)
 
-pub cut : (b : List ℕ) (l t w h : ℕ) (r : Call) → l ≡ numberAt b 1 → t ≡ numberAt b 5 → w ≡ numberAt b 9 → h ≡ numberAt b 13
-    → r ≡ ofLength 18 b (Cut l t w h) → r ≡ cutOf b
-unfolding cutOf
+pub cut : (b : List ℕ) (l t w h : ℕ) (r : Outcome LineCall) → l ≡ u32At b 1 → t ≡ u32At b 5 → w ≡ u32At b 9 → h ≡ u32At b 13
+    → r ≡ ofLength 18 b (accepted (lineCut l t w h)) → r ≡ cutCall b
+unfolding cutCall
 cut b l t w h r el et ew eh er = rw (← el, ← et, ← ew, ← eh) er
 
-pub fit : (b : List ℕ) (s : Size) (r : Call) → s ≡ sizeAt b 1 → r ≡ ofLength 10 b (Fit s) → r ≡ fitOf b
-unfolding fitOf
+pub fit : (b : List ℕ) (s : Size) (r : Outcome LineCall) → s ≡ sidesAt b 1 → r ≡ ofLength 10 b (accepted (lineFit s)) → r ≡ fitCall b
+unfolding fitCall
 fit b s r es er = rw (← es) er
 
-pub contents-yes : (b : List ℕ) → 2 ≤ length b → Contents ≡ contentsOf b
-unfolding contentsOf
+pub contents-yes : (b : List ℕ) → 2 ≤ length b → accepted lineContents ≡ contentsCall b
+unfolding contentsCall
 contents-yes b h = rw (le-leb 2 (length b) h)
 
-pub contents-no : (b : List ℕ) → length b < 2 → Malformed ≡ contentsOf b
-unfolding contentsOf
+pub contents-no : (b : List ℕ) → length b < 2 → refused 14 ≡ contentsCall b
+unfolding contentsCall
 contents-no b h = rw (lt-leb 2 (length b) h)
 
 -- ---- the call
 module _ (b : List ℕ) (r : Bool) (er : r ≡ checks b) where
-  pub check-wrong : not r ≡ true → Malformed ≡ callOf b
+  pub check-wrong : not r ≡ true → refused 14 ≡ callOf b
   unfolding callOf
   check-wrong n = rw (← er, not-true r n)
 
-  pub check-right : not r ≡ false → (k : ℕ) → k ≡ getD b 0 0 → (x : Call) → x ≡ byCode k b → x ≡ callOf b
+  pub check-right : not r ≡ false → (k : ℕ) → k ≡ getD b 0 0 → (x : Outcome LineCall) → x ≡ byCode k b → x ≡ callOf b
   unfolding callOf
   check-right n k ek x ex = rw (← er, not-false r n, ← ek) ex
 

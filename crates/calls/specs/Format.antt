@@ -2,25 +2,54 @@
 -- big-endian."
 use Prim.Native.Nat.{ℕ, _+_, _-_, _%_}
 use mathlib.Core.Bool.{Bool, _&&_, _||_, cond}
-use mathlib.Core.List.{List}
+use mathlib.Core.List.{List, []}
 use lib.Dec.{leb, eqb}
 use lib.ListN.{length, getD, take, drop}
 use Rattle.numbers.specs.Numbers.{u32Of}
 use Rattle.numbers.specs.declared.io.ByteOrder.the-variants.{Big}
-use Rattle.geometry.specs.declared.Size.{Size}
-use Rattle.geometry.specs.declared.OptionalSize.{OptionalSize}
-use Rattle.geometry.specs.declared.OptionalSize.the-variants.{Missing, Given}
+use Rattle.reading.specs.Outcome.{Outcome, refused, accepted}
+use Rattle.reading.specs.declared.geometry.Size.{Size}
+use Rattle.reading.specs.declared.geometry.OptionalSize.{OptionalSize}
+use Rattle.reading.specs.declared.geometry.OptionalSize.the-variants.{Missing, Given}
 use Rattle.hex.specs.Hex.{checks}
 use Rattle.calls.specs.declared.Call.{Call}
 use Rattle.calls.specs.declared.Call.the-variants.{Malformed, Load, Cut, Turn, Mirror, Back, ListPoints, Fit, Contents}
 
+-- ---- a call as a line's bytes spell it. What a load and contents are given besides, model and block, are parts of the bytes: see
+-- modelPart, blockPart and contentsPart
+pub data LineCall : Type 0 where
+  -- the raw size and the picture size
+  lineLoad : OptionalSize → OptionalSize → LineCall
+  -- left, top, width and height
+  lineCut : ℕ → ℕ → ℕ → ℕ → LineCall
+  lineTurn : LineCall
+  lineMirror : LineCall
+  lineBack : LineCall
+  lineList : LineCall
+  -- the box
+  lineFit : Size → LineCall
+  lineContents : LineCall
+
+-- what the code's answer means in 01's numbers: 14, "call line malformed", or the call
+abbrev pub callMeans : Call → Outcome LineCall
+callMeans Malformed = refused 14
+callMeans (Load raw picture) = accepted (lineLoad raw picture)
+callMeans (Cut left top width height) = accepted (lineCut left top width height)
+callMeans Turn = accepted lineTurn
+callMeans Mirror = accepted lineMirror
+callMeans Back = accepted lineBack
+callMeans ListPoints = accepted lineList
+callMeans (Fit box) = accepted (lineFit box)
+callMeans Contents = accepted lineContents
+
+-- ---- numbers
 -- the 32-bit number at a place
-abbrev pub numberAt : List ℕ → ℕ → ℕ
-numberAt b at = u32Of Big (drop at b)
+abbrev pub u32At : List ℕ → ℕ → ℕ
+u32At b at = u32Of Big (drop at b)
 
 -- two of them: a width and a height
-unfoldable pub sizeAt : List ℕ → ℕ → Size
-sizeAt b at = record { width = numberAt b at; height = numberAt b (at + 4) }
+unfoldable pub sidesAt : List ℕ → ℕ → Size
+sidesAt b at = record { width = u32At b at; height = u32At b (at + 4) }
 
 -- ---- "01 load (flags: 1 raw, 2 picture; four 32-bit sides, 0 if missing; model length byte; model; block)"
 abbrev pub flags : List ℕ → ℕ
@@ -50,44 +79,68 @@ unfoldable pub optional : Bool → Size → OptionalSize
 optional given s = cond given (Given s) Missing
 
 -- not "a wrong length, a flag byte above 3, or a missing size whose sides aren't 0"
-unfoldable pub isLoad : List ℕ → Bool
-isLoad b =
+unfoldable pub wellFormedLoad : List ℕ → Bool
+wellFormedLoad b =
     leb (20 + modelLength b) (length b) &&
-    (leb (flags b) 3 && (sidesAgree (hasRaw b) (sizeAt b 2) && sidesAgree (hasPicture b) (sizeAt b 10)))
+    (leb (flags b) 3 && (sidesAgree (hasRaw b) (sidesAt b 2) && sidesAgree (hasPicture b) (sidesAt b 10)))
 
-unfoldable pub loadOf : List ℕ → Call
-loadOf b = cond (isLoad b) (Load (optional (hasRaw b) (sizeAt b 2)) (optional (hasPicture b) (sizeAt b 10))) Malformed
+unfoldable pub loadCall : List ℕ → Outcome LineCall
+loadCall b =
+    cond (wellFormedLoad b)
+    (accepted (lineLoad (optional (hasRaw b) (sidesAt b 2)) (optional (hasPicture b) (sidesAt b 10))))
+    (refused 14)
 
--- ---- a call of a fixed length, the code and the check included
-abbrev pub ofLength : ℕ → List ℕ → Call → Call
-ofLength n b call = cond (eqb (length b) n) call Malformed
+-- ---- a call of a fixed length, the code and the check included; "a wrong length": 14
+abbrev pub ofLength : ℕ → List ℕ → Outcome LineCall → Outcome LineCall
+ofLength n b call = cond (eqb (length b) n) call (refused 14)
 
 -- "02 cut (four 32-bit)"
-unfoldable pub cutOf : List ℕ → Call
-cutOf b = ofLength 18 b (Cut (numberAt b 1) (numberAt b 5) (numberAt b 9) (numberAt b 13))
+unfoldable pub cutCall : List ℕ → Outcome LineCall
+cutCall b = ofLength 18 b (accepted (lineCut (u32At b 1) (u32At b 5) (u32At b 9) (u32At b 13)))
 
 -- "07 fit (two 32-bit)"
-unfoldable pub fitOf : List ℕ → Call
-fitOf b = ofLength 10 b (Fit (sizeAt b 1))
+unfoldable pub fitCall : List ℕ → Outcome LineCall
+fitCall b = ofLength 10 b (accepted (lineFit (sidesAt b 1)))
 
 -- "08 contents (block)": a code and a check at the least
-unfoldable pub contentsOf : List ℕ → Call
-contentsOf b = cond (leb 2 (length b)) Contents Malformed
+unfoldable pub contentsCall : List ℕ → Outcome LineCall
+contentsCall b = cond (leb 2 (length b)) (accepted lineContents) (refused 14)
 
 unfoldable pub contentsPart : List ℕ → List ℕ
 contentsPart b = take (length b - 2) (drop 1 b)
 
--- "Codes: 01 load .., 02 cut .., 03 turn, 04 mirror, 05 back, 06 list, 07 fit .., 08 contents"; any other is unknown
-unfoldable pub byCode : ℕ → List ℕ → Call
+-- "Codes: 01 load .., 02 cut .., 03 turn, 04 mirror, 05 back, 06 list, 07 fit .., 08 contents"; "an unknown code": 14
+unfoldable pub byCode : ℕ → List ℕ → Outcome LineCall
 byCode code b =
-    cond (eqb code 1) (loadOf b)
-    (cond (eqb code 2) (cutOf b)
-    (cond (eqb code 3) (ofLength 2 b Turn)
-    (cond (eqb code 4) (ofLength 2 b Mirror)
-    (cond (eqb code 5) (ofLength 2 b Back)
-    (cond (eqb code 6) (ofLength 2 b ListPoints)
-    (cond (eqb code 7) (fitOf b) (cond (eqb code 8) (contentsOf b) Malformed)))))))
+    cond (eqb code 1) (loadCall b)
+    (cond (eqb code 2) (cutCall b)
+    (cond (eqb code 3) (ofLength 2 b (accepted lineTurn))
+    (cond (eqb code 4) (ofLength 2 b (accepted lineMirror))
+    (cond (eqb code 5) (ofLength 2 b (accepted lineBack))
+    (cond (eqb code 6) (ofLength 2 b (accepted lineList))
+    (cond (eqb code 7) (fitCall b) (cond (eqb code 8) (contentsCall b) (refused 14))))))))
 
--- the call of a line's bytes: a wrong check is malformed, whatever else it says
-unfoldable pub callOf : List ℕ → Call
-callOf b = cond (checks b) (byCode (getD b 0 0) b) Malformed
+-- the call of a line's bytes; "a wrong check": 14, whatever else they say
+unfoldable pub callOf : List ℕ → Outcome LineCall
+callOf b = cond (checks b) (byCode (getD b 0 0) b) (refused 14)
+
+-- ---- the model and the block that a call is given, of the bytes that spell it; none where it takes none
+abbrev pub modelGiven : LineCall → List ℕ → List ℕ
+modelGiven (lineLoad raw picture) b = modelPart b
+modelGiven (lineCut left top width height) b = []
+modelGiven lineTurn b = []
+modelGiven lineMirror b = []
+modelGiven lineBack b = []
+modelGiven lineList b = []
+modelGiven (lineFit size) b = []
+modelGiven lineContents b = []
+
+abbrev pub blockGiven : LineCall → List ℕ → List ℕ
+blockGiven (lineLoad raw picture) b = blockPart b
+blockGiven (lineCut left top width height) b = []
+blockGiven lineTurn b = []
+blockGiven lineMirror b = []
+blockGiven lineBack b = []
+blockGiven lineList b = []
+blockGiven (lineFit size) b = []
+blockGiven lineContents b = contentsPart b

@@ -1,15 +1,15 @@
 // The call that the bytes of a line spell, and the parts of the bytes that it is given.
-use geometry::OptionalSize;
-use geometry::Size;
 use hex::is_checked;
 use numbers::io::ByteOrder;
 use numbers::io::head;
 use numbers::io::tail;
 use numbers::io::u8_at;
 use numbers::io::u32_of;
+use reading::geometry::OptionalSize;
+use reading::geometry::Size;
 ghost use mathlib.Core.Path.{_≡_};
 ghost use Prim.Native.Nat.{_-_, _<_};
-ghost use Rattle.calls.specs.Format.{numberAt, sizeAt, sidesAgree, optional, modelLength, isLoad, loadOf, ofLength, cutOf, fitOf, contentsOf, byCode, callOf, modelPart, blockPart, contentsPart};
+ghost use Rattle.calls.specs.Format.{callMeans, u32At, sidesAt, sidesAgree, optional, modelLength, wellFormedLoad, loadCall, ofLength, cutCall, fitCall, contentsCall, byCode, callOf, modelPart, blockPart, contentsPart};
 
 // How a line's bytes read; what a load or contents is given besides stands in the bytes, see model_of, block_of, contents_block.
 pub enum Call {
@@ -42,18 +42,18 @@ fn less(a: usize, b: usize) -> usize
 }
 
 // The 32-bit number at `at`.
-fn number_at(b: &[u8], at: usize) -> u32
-    ensures { λ r. ⌜ r ≡ numberAt (now (b .entry)) at ⌝ }
+fn u32_at(b: &[u8], at: usize) -> u32
+    ensures { λ r. ⌜ r ≡ u32At (now (b .entry)) at ⌝ }
 {
     u32_of(tail(b, at), ByteOrder::Big)
 }
 
 // The width and the height at `at`.
-fn size_at(b: &[u8], at: usize) -> Size
-    ensures { λ r. ⌜ r ≡ sizeAt (now (b .entry)) at ⌝ }
+fn sides_at(b: &[u8], at: usize) -> Size
+    ensures { λ r. ⌜ r ≡ sidesAt (now (b .entry)) at ⌝ }
 {
-    let width = number_at(b, at);
-    let height = number_at(tail(b, at), 4);
+    let width = u32_at(b, at);
+    let height = u32_at(tail(b, at), 4);
     Size { width, height }
 }
 
@@ -82,8 +82,8 @@ fn optional_size(given: bool, s: Size) -> OptionalSize
 }
 
 // Whether the bytes have a load's length, flags and sizes.
-fn is_load(b: &[u8]) -> bool
-    ensures { λ r. ⌜ r ≡ isLoad (now (b .entry)) ⌝ }
+fn is_well_formed_load(b: &[u8]) -> bool
+    ensures { λ r. ⌜ r ≡ wellFormedLoad (now (b .entry)) ⌝ }
 {
     let flags = u8_at(b, 1);
     let model = model_length(b);
@@ -93,28 +93,28 @@ fn is_load(b: &[u8]) -> bool
     if 3 < flags {
         return false;
     }
-    if !sides_agree(flags % 2 == 1, size_at(b, 2)) {
+    if !sides_agree(flags % 2 == 1, sides_at(b, 2)) {
         return false;
     }
-    sides_agree(2 <= flags, size_at(b, 10))
+    sides_agree(2 <= flags, sides_at(b, 10))
 }
 
 // A load, where the bytes spell one.
-fn load_of(b: &[u8]) -> Call
-    ensures { λ r. ⌜ r ≡ loadOf (now (b .entry)) ⌝ }
+fn load_call(b: &[u8]) -> Call
+    ensures { λ r. ⌜ callMeans r ≡ loadCall (now (b .entry)) ⌝ }
 {
-    if !is_load(b) {
+    if !is_well_formed_load(b) {
         return Call::Malformed;
     }
     let flags = u8_at(b, 1);
-    let raw = optional_size(flags % 2 == 1, size_at(b, 2));
-    let picture = optional_size(2 <= flags, size_at(b, 10));
+    let raw = optional_size(flags % 2 == 1, sides_at(b, 2));
+    let picture = optional_size(2 <= flags, sides_at(b, 10));
     Call::Load { raw, picture }
 }
 
 // `call`, where there are `n` bytes.
 fn of_length(n: usize, b: &[u8], call: Call) -> Call
-    ensures { λ r. ⌜ r ≡ ofLength n (now (b .entry)) call ⌝ }
+    ensures { λ r. ⌜ callMeans r ≡ ofLength n (now (b .entry)) (callMeans call) ⌝ }
 {
     if b.len() == n {
         return call;
@@ -123,13 +123,13 @@ fn of_length(n: usize, b: &[u8], call: Call) -> Call
 }
 
 // A cut, where the bytes spell one.
-fn cut_of(b: &[u8]) -> Call
-    ensures { λ r. ⌜ r ≡ cutOf (now (b .entry)) ⌝ }
+fn cut_call(b: &[u8]) -> Call
+    ensures { λ r. ⌜ callMeans r ≡ cutCall (now (b .entry)) ⌝ }
 {
-    let left = number_at(b, 1);
-    let top = number_at(b, 5);
-    let width = number_at(b, 9);
-    let height = number_at(b, 13);
+    let left = u32_at(b, 1);
+    let top = u32_at(b, 5);
+    let width = u32_at(b, 9);
+    let height = u32_at(b, 13);
     of_length(
         18,
         b,
@@ -143,16 +143,16 @@ fn cut_of(b: &[u8]) -> Call
 }
 
 // A fit, where the bytes spell one.
-fn fit_of(b: &[u8]) -> Call
-    ensures { λ r. ⌜ r ≡ fitOf (now (b .entry)) ⌝ }
+fn fit_call(b: &[u8]) -> Call
+    ensures { λ r. ⌜ callMeans r ≡ fitCall (now (b .entry)) ⌝ }
 {
-    let size = size_at(b, 1);
+    let size = sides_at(b, 1);
     of_length(10, b, Call::Fit { size })
 }
 
 // Contents, where there are a code and a check.
-fn contents_of(b: &[u8]) -> Call
-    ensures { λ r. ⌜ r ≡ contentsOf (now (b .entry)) ⌝ }
+fn contents_call(b: &[u8]) -> Call
+    ensures { λ r. ⌜ callMeans r ≡ contentsCall (now (b .entry)) ⌝ }
 {
     if 2 <= b.len() {
         return Call::Contents;
@@ -162,24 +162,24 @@ fn contents_of(b: &[u8]) -> Call
 
 // The call of a code.
 fn by_code(code: u8, b: &[u8]) -> Call
-    ensures { λ r. ⌜ r ≡ byCode code (now (b .entry)) ⌝ }
+    ensures { λ r. ⌜ callMeans r ≡ byCode code (now (b .entry)) ⌝ }
 {
     match code {
-        1 => load_of(b),
-        2 => cut_of(b),
+        1 => load_call(b),
+        2 => cut_call(b),
         3 => of_length(2, b, Call::Turn),
         4 => of_length(2, b, Call::Mirror),
         5 => of_length(2, b, Call::Back),
         6 => of_length(2, b, Call::ListPoints),
-        7 => fit_of(b),
-        8 => contents_of(b),
+        7 => fit_call(b),
+        8 => contents_call(b),
         _ => Call::Malformed,
     }
 }
 
 // The call that the bytes of a line spell, the check at their end included.
 pub fn call_of(b: &[u8]) -> Call
-    ensures { λ r. ⌜ r ≡ callOf (now (b .entry)) ⌝ }
+    ensures { λ r. ⌜ callMeans r ≡ callOf (now (b .entry)) ⌝ }
 {
     if !is_checked(b) {
         return Call::Malformed;

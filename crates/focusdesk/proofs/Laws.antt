@@ -1,185 +1,175 @@
--- Serving a part of the input by feeding what is left of it, again and again, takes all of it: each feed gets on (`progress`), and what
--- the feeds take one after the other is the part. The answers of a feed lie in the buffer. Read by read, the sheet and the held line are
--- those after all of the bytes that came. Assumes nothing.
+-- A feed from the buffer's start hands on the text of what it used (`once-fed`); feeding what is left of a part of the input, again and
+-- again, gets on, and what the feeds take one after the other is the part (`serving-more`). Then what each answer of a read leaves, by
+-- cases; and read by read, the sheet and the held line are those after all of the bytes that came (`running-more`). Assumes nothing.
 use Prim.Native.Nat.{ℕ, zero, suc, _+_, _-_, _<_, _≤_}
 use mathlib.Core.Path.{_≡_, refl, sym, ap, _∙_}
 use mathlib.Core.Bool.{Bool, true, false, cond, not}
 use mathlib.Core.List.{List, [], _++_, append-nil}
 use lib.IntN.{ℤ, pos, negsuc}
 use lib.ListN.{length, take, drop, length-drop}
-use lib.Seq.{sets, take-add, take-length}
+use lib.Seq.{sets, sets-eq, take-at, take-add, take-length}
 use lib.Signed.{ltZ}
 use mir.Syntax.{w64}
 use mir.Val.{toZ, ofZ, SFits}
 use mir.ValLaws.{toZ-ofZ}
 use native.Mathlib.Omega.{arith}
+use native.Mathlib.Nat.{zero-add}
 use borrow.Author.Tests.{not-false, ltb-true}
 use Rattle.io.specs.Counts.{clamped}
-use Rattle.text.proofs.Laws.{put-same}
+use Rattle.text.specs.Put.{Put}
+use Rattle.text.proofs.Laws.{put-same, put-room}
 use Rattle.sheet.specs.declared.Sheet.{Sheet}
 use Rattle.sheet.specs.Sheet.{freshSheet}
-use Rattle.session.specs.Lines.{mostText}
+use Rattle.session.specs.Answering.{mostText}
 use Rattle.stream.specs.declared.Fed.{Fed}
-use Rattle.stream.specs.Stream.{heldAfter, sheetAfter, lastText, Feeds}
-use Rattle.stream.proofs.Pieces.{held-nil, sheet-nil}
-use Rattle.stream.proofs.Laws.{then-held, then-sheet, rest-all, take-least, progress}
+use Rattle.stream.specs.Stream.{lastText, Taken, Feeds}
+use Rattle.stream.proofs.Laws.{taken-none, taken-join, rest-all, take-least, progress}
 use Rattle.focusdesk.specs.declared.After.{After}
-use Rattle.focusdesk.specs.Served.{Serves, came, ReadsOnce}
+use Rattle.focusdesk.specs.declared.Once.{Once}
+use Rattle.focusdesk.specs.Served.{ServesOnce, Serves, came, Interrupts, after, ReadsOnce}
 
 false-true : {A : Type 0} → false ≡ true → A
 false-true z =
     let e : _≡_ {A = ℕ} 0 1 = ap (λ (b : Bool). cond b 1 0) z in
     absurd (omega (arith, e))
 
--- i characters of a part are taken, and the buffer `o` has room for an answer
-pub record Serving (s : Sheet) (l₀ : List ℕ) (n : ℕ) (input l o : List ℕ) (f : Fed) (i : ℕ) : Type 0 where
-  pub counted : length input ≤ 18446744073709551615
-  pub part : i ≤ length input
-  pub left : f .sheet ≡ sheetAfter (length l₀) s (take n l₀) (take i input)
-  pub holds : take (f .held) l ≡ heldAfter (length l₀) (take n l₀) (take i input)
-  pub long : length l ≡ length l₀
-  pub room : mostText ≤ length o
-
-pub serving-none : (s : Sheet) (l input o : List ℕ) (n : ℕ) → length input ≤ 18446744073709551615 → mostText ≤ length o
-    → Serving s l n input l o (record { sheet = s; held = n; at = 0; used = 0 }) 0
-serving-none s l input o n c h =
-    record {
-      counted = c;
-      part = omega arith;
-      left = sym (sheet-nil (length l) s (take n l));
-      holds = sym (held-nil (length l) (take n l));
-      long = refl;
-      room = h;
-    }
+-- ---- a text at a buffer's start, which has room for it, is the bytes before the next place
+front : {o t o₁ : List ℕ} {a : ℕ} → Put o 0 t o₁ a → length t ≤ length o → take a o₁ ≡ t
+front {o} {t} {o₁} {a} p f =
+    let k : a ≡ length t = put-room p (omega arith) ∙ zero-add (length t) in
+    rw (k, p .laid, sets-eq t o 0 (omega arith)) (take-at t (drop (0 + length t) o) (length t) refl)
 
 -- the answers of a feed from the buffer's start lie in it
-pub feed-place : {s : Sheet} {l t o o₁ l₁ : List ℕ} {n : ℕ} {r : Fed} → Feeds s l n t o 0 o₁ l₁ r → r .at ≤ length o₁
-feed-place p = omega (arith, p .whole (omega arith) .1, put-same (p .taken .put))
+pub feed-place : {s : Sheet} {l h t o o₁ l₁ : List ℕ} {r : Fed} → Feeds s l h t o 0 o₁ l₁ r → r .at ≤ length o₁
+feed-place {s} {l} {h} {t} p =
+    omega (arith, p .none-cut (omega arith), put-room (p .put) (p .none-cut (omega arith)), put-same (p .put))
 
-module _ {s : Sheet} {l₀ l o o₁ l₁ : List ℕ} {n : ℕ} {f r : Fed} (input : List ℕ) (i : ℕ) (p : Serving s l₀ n input l o f i) where
-  serving-rest : Feeds (f .sheet) l (f .held) (drop i input) o 0 o₁ l₁ r → Serving s l₀ n input l₁ o₁ r (i + r .used)
-  serving-rest q =
+pub once-fed : {s : Sheet} {l h t o o₁ l₁ : List ℕ} {r : Fed} (n : ℕ) (sent : Bool) → n ≡ r .at → mostText ≤ length o → Feeds s l h t o 0 o₁ l₁ r
+    → ServesOnce s l h t l₁ o₁ (record { sheet = r .sheet; held = r .held; used = r .used; handed = n; sent = sent })
+once-fed n sent e room p =
+    record {
+      taken = p .taken;
+      handed = rw e (front (p .put) (omega (arith, p .none-cut (omega arith))));
+      used-part = p .used-part;
+      used-some = λ z. progress p z room;
+    }
+
+-- ---- i characters of a part are taken
+pub record Serving (s : Sheet) (l₀ h input l : List ℕ) (r : Once) (i : ℕ) : Type 0 where
+  pub counted : length input ≤ 18446744073709551615
+  pub used-part : i ≤ length input
+  pub taken : Taken s l₀ h (take i input) (r .sheet) l (r .held)
+
+pub serving-none : (s : Sheet) (l input : List ℕ) (n : ℕ) → length input ≤ 18446744073709551615 → length (take n l) ≡ n
+    → Serving s l (take n l) input l (record { sheet = s; held = n; used = 0; handed = 0; sent = true }) 0
+serving-none s l input n c e = record { counted = c; used-part = omega arith; taken = taken-none s l n e }
+
+module _ {s : Sheet} {l₀ h l l₁ o₁ : List ℕ} {r r₁ : Once} (input : List ℕ) (i : ℕ) (p : Serving s l₀ h input l r i)
+    (q : ServesOnce (r .sheet) l (take (r .held) l) (take (length input - i) (drop i input)) l₁ o₁ r₁)
+  where
+    rest : ServesOnce (r .sheet) l (take (r .held) l) (drop i input) l₁ o₁ r₁
+    rest = rw (rest-all input i) at q
+
+    -- one more feed
+    pub serving-more : Serving s l₀ h input l₁ r₁ (i + r₁ .used)
+    serving-more =
+        record {
+          counted = p .counted;
+          used-part = omega (arith, p .used-part, rest .used-part, length-drop i input);
+          taken = rw (take-add i (r₁ .used) input) (taken-join (p .taken) (rest .taken));
+        }
+
+    pub serving-further : i < length input → (0 < r₁ .used) × (i + r₁ .used ≤ length input)
+    serving-further f =
+        (rest .used-some (omega (arith, f, length-drop i input)), omega (arith, f, rest .used-part, length-drop i input))
+
+module _ {s : Sheet} {l₀ h l : List ℕ} {r : Once} (input : List ℕ) (i : ℕ) (p : Serving s l₀ h input l r i) where
+  -- all of the part is used
+  pub serves-all : length input ≤ i → Serves s l₀ h input l (after (r .sheet) (r .held) true)
+  serves-all f =
       record {
-        counted = p .counted;
-        part = omega (arith, p .part, q .part, length-drop i input);
-        left =
-            q .taken .left ∙
-            rw (take-add i (r .used) input)
-            (then-sheet s (take n l₀) (take i input) (take (r .used) (drop i input)) (p .long) (p .left) (p .holds));
-        holds =
-            q .taken .holds ∙
-            rw (take-add i (r .used) input)
-            (then-held s (take n l₀) (take i input) (take (r .used) (drop i input)) (p .long) (p .left) (p .holds));
-        long = q .taken .long ∙ p .long;
-        room = omega (arith, p .room, put-same (q .taken .put));
-      }
-
-  -- one more feed
-  pub serving-more : Feeds (f .sheet) l (f .held) (take (length input - i) (drop i input)) o 0 o₁ l₁ r
-      → Serving s l₀ n input l₁ o₁ r (i + r .used)
-  serving-more q = serving-rest (rw (rest-all input i) at q)
-
-  pub serving-far : i < length input → Feeds (f .sheet) l (f .held) (take (length input - i) (drop i input)) o 0 o₁ l₁ r
-      → (0 < r .used) × (i + r .used ≤ length input)
-  serving-far h q =
-      let q₁ : Feeds (f .sheet) l (f .held) (drop i input) o 0 o₁ l₁ r = rw (rest-all input i) at q in
-      (progress q₁ (omega (arith, h, length-drop i input)) (p .room), omega (arith, h, q₁ .part, length-drop i input))
-
-module _ {s : Sheet} {l₀ l o : List ℕ} {n : ℕ} {f : Fed} (input : List ℕ) (i : ℕ) (p : Serving s l₀ n input l o f i) where
-  -- all of the part is taken
-  pub serves-all : length input ≤ i → Serves s l₀ n input l (record { sheet = f .sheet; held = f .held; more = true })
-  serves-all h =
-      record {
-        taken = i;
-        part = p .part;
-        some = λ z. omega (arith, z, h);
-        all = λ z. omega (arith, h, p .part);
-        left = p .left;
-        holds = p .holds;
-        long = p .long;
+        used = i;
+        taken = p .taken;
+        used-part = p .used-part;
+        used-some = λ z. omega (arith, z, f);
+        used-all = λ z. omega (arith, f, p .used-part);
       }
 
   -- a write has failed, after some of it
-  pub serves-some : 0 < i → Serves s l₀ n input l (record { sheet = f .sheet; held = f .held; more = false })
-  serves-some h =
-      record {
-        taken = i;
-        part = p .part;
-        some = λ z. h;
-        all = λ z. false-true z;
-        left = p .left;
-        holds = p .holds;
-        long = p .long;
-      }
+  pub serves-some : 0 < i → Serves s l₀ h input l (after (r .sheet) (r .held) false)
+  serves-some f =
+      record { used = i; taken = p .taken; used-part = p .used-part; used-some = λ z. f; used-all = λ z. false-true z }
 
 -- ---- a read, which answered `got`. The program tests its bits, `ofZ w64 got`
-module _ (s : Sheet) (l : List ℕ) (n : ℕ) (input o : List ℕ) where
-  failed : (got : ℤ) (o₁ : List ℕ) (more : Bool) → ltZ got (pos 0) ≡ true
-      → ReadsOnce got s l n input o l o₁ (record { sheet = s; held = n; more = more })
+failed-read : (got : ℤ) (b : Bool) → ltZ got (pos 0) ≡ true → Interrupts got b
+unfolding Interrupts
+failed-read (negsuc k) b h = tt
+failed-read (pos k) b h = absurd (omega (arith, ltb-true k 0 h))
+
+other-read : (got : ℤ) → ltZ got (pos 0) ≡ false → Interrupts got false
+unfolding Interrupts
+other-read (negsuc k) h = tt
+other-read (pos k) h = refl
+
+module _ (b : Bool) (s : Sheet) (l : List ℕ) (n : ℕ) (input o : List ℕ) where
+  failed : (got : ℤ) → ltZ got (pos 0) ≡ true → ReadsOnce got b s l n input o l o (after s n b)
   unfolding ReadsOnce
-  failed (negsuc k) o₁ more h = (refl, refl, refl)
-  failed (pos k) o₁ more h = absurd (omega (arith, ltb-true k 0 h))
+  failed (negsuc k) h = (refl, refl, refl)
+  failed (pos k) h = absurd (omega (arith, ltb-true k 0 h))
 
-  module _ (l₁ o₁ : List ℕ) (r : After) where
-    ended : (got : ℤ) → ltZ got (pos 0) ≡ false → ofZ w64 got ≡ 0 → r .more ≡ false → o₁ ≡ sets o 0 (lastText s (take n l))
-        → ReadsOnce got s l n input o l₁ o₁ r
+  module _ (o₁ : List ℕ) where
+    ended : (got : ℤ) → ltZ got (pos 0) ≡ false → ofZ w64 got ≡ 0 → o₁ ≡ sets o 0 (lastText s (take n l))
+        → ReadsOnce got b s l n input o l o₁ (after s 0 false)
     unfolding ReadsOnce
-    ended (negsuc k) h z m e = false-true (sym h)
-    ended (pos zero) h z m e = (m, e)
-    ended (pos (suc k)) h z m e = absurd (omega (arith, z))
+    ended (negsuc k) h z e = false-true (sym h)
+    ended (pos zero) h z e = (refl, refl, e)
+    ended (pos (suc k)) h z e = absurd (omega (arith, z))
 
-    some : (got : ℤ) (k : ℕ) → ltZ got (pos 0) ≡ false → (ofZ w64 got ≡ 0 → ⊥) → k ≡ clamped got (length input)
-        → Serves s l n (take k input) l₁ r → ReadsOnce got s l n input o l₁ o₁ r
+    some : (l₁ : List ℕ) (r : After) (got : ℤ) (k : ℕ) → ltZ got (pos 0) ≡ false → (ofZ w64 got ≡ 0 → ⊥) → k ≡ clamped got (length input)
+        → Serves s l (take n l) (take k input) l₁ r → ReadsOnce got b s l n input o l₁ o₁ r
     unfolding ReadsOnce came
-    some (negsuc j) k h z e p = false-true (sym h)
-    some (pos zero) k h z e p = absurd (z refl)
-    some (pos (suc j)) k h z e p = rw (take-least input (suc j) k e) p
+    some l₁ r (negsuc j) k h z e p = false-true (sym h)
+    some l₁ r (pos zero) k h z e p = absurd (z refl)
+    some l₁ r (pos (suc j)) k h z e p = rw (take-least input (suc j) k e) p
 
-  module _ (got : ℤ) (f : SFits w64 got) where
-    pub reads-failed : (o₁ : List ℕ) (more : Bool) → ltZ (toZ w64 (ofZ w64 got)) (pos 0) ≡ true
-        → ReadsOnce got s l n input o l o₁ (record { sheet = s; held = n; more = more })
-    reads-failed o₁ more h = failed got o₁ more (rw (toZ-ofZ w64 got f) at h)
+module _ (got : ℤ) (f : SFits w64 got) where
+  pub interrupted-some : (b : Bool) → ltZ (toZ w64 (ofZ w64 got)) (pos 0) ≡ true → Interrupts got b
+  interrupted-some b h = failed-read got b (rw (toZ-ofZ w64 got f) at h)
+
+  pub interrupted-none : ltZ (toZ w64 (ofZ w64 got)) (pos 0) ≡ false → Interrupts got false
+  interrupted-none h = other-read got (rw (toZ-ofZ w64 got f) at h)
+
+  module _ (b : Bool) (s : Sheet) (l : List ℕ) (n : ℕ) (input o : List ℕ) where
+    pub reads-failed : ltZ (toZ w64 (ofZ w64 got)) (pos 0) ≡ true → ReadsOnce got b s l n input o l o (after s n b)
+    reads-failed h = failed b s l n input o got (rw (toZ-ofZ w64 got f) at h)
 
     -- the input has ended
-    pub reads-end : (l₁ o₁ : List ℕ) (r : After) → ltZ (toZ w64 (ofZ w64 got)) (pos 0) ≡ false → ofZ w64 got ≡ 0 → r .more ≡ false
-        → o₁ ≡ sets o 0 (lastText s (take n l)) → ReadsOnce got s l n input o l₁ o₁ r
-    reads-end l₁ o₁ r h = ended l₁ o₁ r got (rw (toZ-ofZ w64 got f) at h)
+    pub reads-end : (o₁ : List ℕ) → ltZ (toZ w64 (ofZ w64 got)) (pos 0) ≡ false → ofZ w64 got ≡ 0
+        → o₁ ≡ sets o 0 (lastText s (take n l)) → ReadsOnce got b s l n input o l o₁ (after s 0 false)
+    reads-end o₁ h = ended b s l n input o o₁ got (rw (toZ-ofZ w64 got f) at h)
 
     -- bytes came: as many of the buffer are served as the read answered
     pub reads-some : (l₁ o₁ : List ℕ) (r : After) (k : ℕ) → ltZ (toZ w64 (ofZ w64 got)) (pos 0) ≡ false → (ofZ w64 got ≡ 0 → ⊥)
-        → k ≡ clamped (toZ w64 (ofZ w64 got)) (length input) → Serves s l n (take k input) l₁ r → ReadsOnce got s l n input o l₁ o₁ r
-    reads-some l₁ o₁ r k h z e = some l₁ o₁ r got k (rw (toZ-ofZ w64 got f) at h) z (rw (toZ-ofZ w64 got f) at e)
+        → k ≡ clamped (toZ w64 (ofZ w64 got)) (length input) → Serves s l (take n l) (take k input) l₁ r
+        → ReadsOnce got b s l n input o l₁ o₁ r
+    reads-some l₁ o₁ r k h z e =
+        some b s l n input o o₁ l₁ r got k (rw (toZ-ofZ w64 got f) at h) z (rw (toZ-ofZ w64 got f) at e)
 
--- ---- all reads: the sheet and the held line are those after `all`, the bytes that came
-pub record Running (all : List ℕ) (l : List ℕ) (r : After) : Type 0 where
-  pub left : r .sheet ≡ sheetAfter 4097 freshSheet [] all
-  pub holds : take (r .held) l ≡ heldAfter 4097 [] all
-  pub long : length l ≡ 4097
+-- ---- all reads: after one more, after which there may be more, just the bytes that came are added to `all`
+pub running-none : (s : Sheet) (l : List ℕ) → s ≡ freshSheet → Taken freshSheet l [] [] s l 0
+running-none s l e = rw e (taken-none freshSheet l 0 refl)
 
-pub running-none : (s : Sheet) (l : List ℕ) → s ≡ freshSheet → 4097 ≡ length l → Running [] l (record { sheet = s; held = 0; more = true })
-running-none s l e h =
-    record {
-      left = e ∙ sym (sheet-nil 4097 freshSheet []);
-      holds = sym (held-nil 4097 []);
-      long = sym h;
-    }
-
--- one more read, after which there may be more: just the bytes that came are added
-pub running-more : (got : ℤ) (input o : List ℕ) {all l : List ℕ} (l₁ o₁ : List ℕ) {r : After} (r₁ : After) → Running all l r
-    → ReadsOnce got (r .sheet) l (r .held) input o l₁ o₁ r₁ → not (r₁ .more) ≡ false → Running (all ++ came got input) l₁ r₁
+pub running-more : (got : ℤ) (b : Bool) (input o : List ℕ) {all l₀ l : List ℕ} {s : Sheet} {n : ℕ} (l₁ o₁ : List ℕ) (r : After)
+    → Taken freshSheet l₀ [] all s l n → ReadsOnce got b s l n input o l₁ o₁ r → not (r .more) ≡ false
+    → Taken freshSheet l₀ [] (all ++ came got input) (r .sheet) l₁ (r .held)
 unfolding ReadsOnce came
-running-more (negsuc k) input o {all} l₁ o₁ r₁ p q e =
-    record {
-      left = rw (append-nil all) (q .0 ∙ p .left);
-      holds = rw (q .1, q .2, append-nil all) (p .holds);
-      long = rw (q .2) (p .long);
-    }
-running-more (pos zero) input o l₁ o₁ r₁ p q e = false-true (sym (q .0) ∙ not-false (r₁ .more) e)
-running-more (pos (suc j)) input o {all} l₁ o₁ r₁ p q e =
-    let m : r₁ .more ≡ true = not-false (r₁ .more) e in
-    let g : take (q .taken) (take (suc j) input) ≡ take (suc j) input = rw (q .all m) (take-length (take (suc j) input)) in
-    record {
-      left = q .left ∙ rw g (then-sheet freshSheet [] all (take (suc j) input) (p .long) (p .left) (p .holds));
-      holds = q .holds ∙ rw g (then-held freshSheet [] all (take (suc j) input) (p .long) (p .left) (p .holds));
-      long = q .long ∙ p .long;
-    }
+running-more (negsuc k) b input o {all} {s = s} {n = n} l₁ o₁ r p q e =
+    let es : r .sheet ≡ s = ap (λ (a : After). a .sheet) (q .0) in
+    let eh : r .held ≡ n = ap (λ (a : After). a .held) (q .0) in
+    rw (es, eh, q .1, append-nil all) p
+running-more (pos zero) b input o l₁ o₁ r p q e =
+    false-true (sym (ap (λ (a : After). a .more) (q .0)) ∙ not-false (r .more) e)
+running-more (pos (suc j)) b input o {all} l₁ o₁ r p q e =
+    let g : take (q .used) (take (suc j) input) ≡ take (suc j) input =
+    rw (q .used-all (not-false (r .more) e)) (take-length (take (suc j) input)) in
+    taken-join p (rw g at (q .taken))

@@ -11,12 +11,12 @@ use native.Mathlib.Nat.{zero-add}
 use native.Mathlib.Omega.{arith}
 use borrow.Author.Tests.{lt-ltb, le-ltb}
 use borrow.Rule.Slice.PartMut.{putMid, postOf}
-use Rattle.afinfo.specs.Focus.{modeNumber}
-use Rattle.fitting.specs.declared.focus.FocusPoint.{FocusPoint}
-use Rattle.load.specs.Load.{originNumber}
-use Rattle.listing.specs.declared.Listing.{Listing}
-use Rattle.listing.specs.Listing.{flat, over, headNumbers, hasRoom, withPoints}
-use Rattle.listing.proofs.Buffer.{no-room, has-room}
+use Rattle.reading.specs.Focus.{modeNumber}
+use Rattle.placing.specs.declared.focus.FocusPoint.{FocusPoint}
+use Rattle.placing.specs.Load.{originNumber}
+use Rattle.sheet.specs.declared.listing.Listing.{Listing}
+use Rattle.sheet.specs.Listing.{flat, over, headNumbers, hasRoom, withPoints}
+use Rattle.sheet.proofs.Buffer.{no-room, has-room}
 use Rattle.focuspoints.specs.Buffer.{roomNumber, withNumbers}
 
 pub laid : (vs l : List ℕ) → length vs ≤ length l → sets l 0 vs ≡ over vs l

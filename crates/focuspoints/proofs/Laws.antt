@@ -10,12 +10,12 @@ use lib.ListN.{length}
 use native.Mathlib.Omega.{arith}
 use borrow.Author.Tests.{le-ltb}
 use Rattle.laws.proofs.Tests.{by-bool}
-use Rattle.tiff.specs.Outcome.{Outcome, refused, accepted}
+use Rattle.reading.specs.Outcome.{Outcome, refused, accepted}
 use Rattle.placing.specs.Focus.{focusOf}
-use Rattle.load.specs.Load.{Focus}
-use Rattle.load.specs.Sound.{Sound, SoundFocus}
+use Rattle.placing.specs.Load.{Focus}
+use Rattle.placing.specs.Sound.{Sound, SoundFocus}
 use Rattle.placing.proofs.Sound.{focus-sound}
-use Rattle.journal.proofs.Numbers.{Numbered, number, numbered-load}
+use Rattle.placing.proofs.Numbers.{Numbered, number, numbered-load}
 use Rattle.focuspoints.specs.Buffer.{roomNumber, withNumbers}
 use Rattle.focuspoints.specs.Photograph.{listingLength, photographNumber, photographBuffer}
 use Rattle.focuspoints.specs.Laws.{ListsTheLoad, FewNumbers, RoomEnough, RefusedKeeps}

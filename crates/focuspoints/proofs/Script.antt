@@ -9,7 +9,7 @@ use native.Mathlib.Omega.{arith}
 use Rattle.laws.proofs.Tests.{by-bool}
 use Rattle.script.specs.declared.Answered.{Answered}
 use Rattle.script.specs.declared.Answered.the-variants.{Short, Written}
-use Rattle.script.specs.Script.{hasRoom, answeredWith, bufferWith}
+use Rattle.script.specs.Script.{roomFor, answeredWith, bufferWith}
 use Rattle.focuspoints.specs.Script.{scriptLength}
 
 apart : {A : Type 0} {n : ℕ} → Short ≡ Written n → A
@@ -23,14 +23,14 @@ module _ (text l l′ : List ℕ) (x : Answered) (p : (x ≡ answeredWith text l
   unfolding answeredWith scriptLength
   script-short e =
       ⊎-elim
-      (λ (h : hasRoom text l ≡ true). let f : x ≡ Written (length text) = p .0 ∙ rw h in apart (sym e ∙ f))
-      (λ (h : hasRoom text l ≡ false). (rw h, p .1))
-      (by-bool (hasRoom text l))
+      (λ (h : roomFor text l ≡ true). let f : x ≡ Written (length text) = p .0 ∙ rw h in apart (sym e ∙ f))
+      (λ (h : roomFor text l ≡ false). (rw h, p .1))
+      (by-bool (roomFor text l))
 
   pub script-written : (n : ℕ) → x ≡ Written n → (n ≡ scriptLength text l) × (l′ ≡ bufferWith text l)
   unfolding answeredWith scriptLength
   script-written n e =
       ⊎-elim
-      (λ (h : hasRoom text l ≡ true). let f : x ≡ Written (length text) = p .0 ∙ rw h in (same (sym e ∙ f) ∙ rw h, p .1))
-      (λ (h : hasRoom text l ≡ false). let f : x ≡ Short = p .0 ∙ rw h in apart (sym f ∙ e))
-      (by-bool (hasRoom text l))
+      (λ (h : roomFor text l ≡ true). let f : x ≡ Written (length text) = p .0 ∙ rw h in (same (sym e ∙ f) ∙ rw h, p .1))
+      (λ (h : roomFor text l ≡ false). let f : x ≡ Short = p .0 ∙ rw h in apart (sym f ∙ e))
+      (by-bool (roomFor text l))

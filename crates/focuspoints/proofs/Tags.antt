@@ -11,17 +11,17 @@ use lib.Seq.{take-at, drop-at}
 use native.Mathlib.Omega.{arith}
 use borrow.Author.Tests.{ltb-false}
 use Rattle.laws.proofs.Tests.{by-bool}
-use Rattle.tiff.specs.Outcome.{Outcome, refused, accepted}
-use Rattle.tiff.specs.Block.{blockOf}
+use Rattle.reading.specs.Outcome.{Outcome, refused, accepted}
+use Rattle.reading.specs.Block.{blockOf}
 use Rattle.reading.specs.Contents.{Holds, keptTags, listed, ContentsOf, contentsIn, contentsOf}
 use Rattle.numbers.specs.declared.io.ByteOrder.{ByteOrder}
 use Rattle.reading.specs.declared.nikon.TagList.{TagList}
-use Rattle.reading.specs.declared.nikon.ContentsAnswer.the-variants.{Unreadable, Listed}
-use Rattle.listing.specs.Listing.{over}
+use Rattle.reading.specs.declared.nikon.ContentsAnswer.the-variants.{Unreadable, Tags}
+use Rattle.sheet.specs.Listing.{over}
 use Rattle.focuspoints.specs.Buffer.{roomNumber, withNumbers}
 use Rattle.focuspoints.specs.Contents.{contentsNumberOf, contentsBufferOf, Told, tellsIn, Tells}
 
-apart : {A : Type 0} → Unreadable ≡ Listed → A
+apart : {A : Type 0} → Unreadable ≡ Tags → A
 apart e = let y : _≡_ {A = ℕ} 0 1 = cc in absurd (omega arith)
 
 four-places : (o : ByteOrder) (s : List ℕ) → length (keptTags o s) ≤ 4 → length (listed (keptTags o s) .tags) ≡ 4
@@ -60,7 +60,7 @@ module _ (s l : List ℕ) where
   no-tags (refused m) r e f = (refl, refl, (refl, refl))
   no-tags (accepted o) r e f = apart (sym f ∙ ap (λ (x : TagList). x .answer) e)
 
-  some-tags : (b : Outcome ByteOrder) (r : TagList) (n : ℕ) (l′ : List ℕ) → r ≡ contentsIn b s → r .count ≤ 4 → ContentsOf b s r → r .answer ≡ Listed
+  some-tags : (b : Outcome ByteOrder) (r : TagList) (n : ℕ) (l′ : List ℕ) → r ≡ contentsIn b s → r .count ≤ 4 → ContentsOf b s r → r .answer ≡ Tags
       → (n ≡ roomNumber 5 (length l)) × (l′ ≡ withNumbers 5 (r .count ∷ r .tags) l)
       → (n ≡ contentsNumberOf (contentsIn b s) (length l)) × (l′ ≡ contentsBufferOf (contentsIn b s) l) × Tells b s l n l′
   unfolding contentsIn contentsNumberOf contentsBufferOf Tells ContentsOf
@@ -74,7 +74,7 @@ module _ (s l : List ℕ) where
       → (1 ≡ contentsNumberOf (contentsOf s) (length l)) × (l ≡ contentsBufferOf (contentsOf s) l) × Tells (blockOf s) s l 1 l
   contents-no r e f = no-tags (blockOf s) r e f
 
-  pub contents-yes : (r : TagList) (n : ℕ) (l′ : List ℕ) → r ≡ contentsOf s → r .count ≤ 4 → ContentsOf (blockOf s) s r → r .answer ≡ Listed
+  pub contents-yes : (r : TagList) (n : ℕ) (l′ : List ℕ) → r ≡ contentsOf s → r .count ≤ 4 → ContentsOf (blockOf s) s r → r .answer ≡ Tags
       → (n ≡ roomNumber 5 (length l)) × (l′ ≡ withNumbers 5 (r .count ∷ r .tags) l)
       → (n ≡ contentsNumberOf (contentsOf s) (length l)) × (l′ ≡ contentsBufferOf (contentsOf s) l) × Tells (blockOf s) s l n l′
   contents-yes r n l′ e k x f p = some-tags (blockOf s) r n l′ e k x f p

@@ -5,25 +5,25 @@ use mathlib.Core.List.{List, _∷_}
 use mathlib.Core.Path.{_≡_}
 use lib.Dec.{ltb}
 use lib.ListN.{getD, length, take, drop}
-use Rattle.tiff.specs.Outcome.{Outcome, refused, accepted}
+use Rattle.reading.specs.Outcome.{Outcome, refused, accepted}
 use Rattle.reading.specs.Contents.{Holds, keptTags}
 use Rattle.numbers.specs.declared.io.ByteOrder.{ByteOrder}
 use Rattle.reading.specs.declared.nikon.TagList.{TagList}
 use Rattle.reading.specs.declared.nikon.ContentsAnswer.{ContentsAnswer}
-use Rattle.reading.specs.declared.nikon.ContentsAnswer.the-variants.{Unreadable, Listed}
+use Rattle.reading.specs.declared.nikon.ContentsAnswer.the-variants.{Unreadable, Tags}
 use Rattle.focuspoints.specs.Buffer.{roomNumber, withNumbers}
 
 -- 1 where the block cannot be read, then 13
 abbrev pub numberBy : ContentsAnswer → ℕ → ℕ
 numberBy Unreadable room = 1
-numberBy Listed room = roomNumber 5 room
+numberBy Tags room = roomNumber 5 room
 
 unfoldable pub contentsNumberOf : TagList → ℕ → ℕ
 contentsNumberOf r room = numberBy (r .answer) room
 
 abbrev pub bufferBy : ContentsAnswer → List ℕ → List ℕ → List ℕ
 bufferBy Unreadable five out = out
-bufferBy Listed five out = withNumbers 5 five out
+bufferBy Tags five out = withNumbers 5 five out
 
 -- "count and tags"; kept where the number is not 0
 unfoldable pub contentsBufferOf : TagList → List ℕ → List ℕ

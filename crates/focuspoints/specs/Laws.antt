@@ -4,11 +4,11 @@ use mathlib.Core.List.{List, _∷_}
 use mathlib.Core.Logic.{_⊎_}
 use mathlib.Core.Path.{_≡_}
 use lib.ListN.{length}
-use Rattle.afinfo.specs.Focus.{modeNumber}
-use Rattle.geometry.specs.declared.OptionalSize.{OptionalSize}
+use Rattle.reading.specs.Focus.{modeNumber}
+use Rattle.reading.specs.declared.geometry.OptionalSize.{OptionalSize}
 use Rattle.placing.specs.Focus.{focusOf}
-use Rattle.load.specs.Load.{Focus, originNumber}
-use Rattle.load.specs.Sound.{SoundFocus}
+use Rattle.placing.specs.Load.{Focus, originNumber}
+use Rattle.placing.specs.Sound.{SoundFocus}
 use Rattle.journal.specs.Journal.{numbers}
 use Rattle.focuspoints.specs.Photograph.{listingOf, photographNumber, photographBuffer}
 

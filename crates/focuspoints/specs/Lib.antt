@@ -3,3 +3,4 @@ pub mod Photograph
 pub mod Script
 pub mod Contents
 pub mod Laws
+pub mod Inside

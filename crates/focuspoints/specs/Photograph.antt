@@ -6,10 +6,10 @@ use mathlib.Core.List.{List, [], _++_}
 use mathlib.Core.Path.{_≡_}
 use lib.Dec.{eqb}
 use lib.ListN.{length}
-use Rattle.tiff.specs.Outcome.{Outcome, refused, accepted}
-use Rattle.geometry.specs.declared.OptionalSize.{OptionalSize}
-use Rattle.geometry.specs.declared.OptionalSize.the-variants.{Missing, Given}
-use Rattle.load.specs.Load.{Focus}
+use Rattle.reading.specs.Outcome.{Outcome, refused, accepted}
+use Rattle.reading.specs.declared.geometry.OptionalSize.{OptionalSize}
+use Rattle.reading.specs.declared.geometry.OptionalSize.the-variants.{Missing, Given}
+use Rattle.placing.specs.Load.{Focus}
 use Rattle.journal.specs.Journal.{presentFrame, listing, head, numbers}
 use Rattle.focuspoints.specs.Buffer.{roomNumber, withNumbers}
 

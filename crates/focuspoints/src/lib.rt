@@ -1,25 +1,27 @@
 // A library for C and Rust: one photograph's focus points, a whole script of call lines, and a note's contents. What is exported takes
 // numbers and slices (a pointer and a length each) and asks nothing of what they hold.
-use geometry::OptionalSize;
-use geometry::Size;
-use listing::Listing;
-use load::focus::FocusAnswer;
-use load::focus::FocusPoints;
+use placing::load::FocusAnswer;
+use placing::load::FocusPoints;
+use reading::geometry::OptionalSize;
+use reading::geometry::Size;
 use reading::nikon::ContentsAnswer;
 use script::Answered;
+use sheet::listing::Listing;
 ghost use mathlib.Core.Path.{_≡_};
 ghost use mathlib.Core.List.{_∷_};
 ghost use Prim.Native.Nat.{_+_, _*_, _≤_};
 ghost use lib.ListN.{length};
-ghost use Rattle.tiff.specs.Block.{blockOf};
+ghost use Rattle.reading.specs.Block.{blockOf};
 ghost use Rattle.reading.specs.Contents.{contentsOf};
 ghost use Rattle.placing.specs.Focus.{focusOf};
-ghost use Rattle.listing.specs.Listing.{over, headNumbers};
+ghost use Rattle.sheet.specs.Listing.{over, headNumbers};
 ghost use Rattle.script.specs.Script.{scriptText, bufferWith};
 ghost use Rattle.focuspoints.specs.Photograph.{sizeOf, Photographed};
 ghost use Rattle.focuspoints.specs.Script.{scriptLength};
 ghost use Rattle.focuspoints.specs.Contents.{contentsNumberOf, contentsBufferOf, Tells};
-ghost use Rattle.focuspoints.specs.Buffer.{roomNumber, withNumbers, laidNumbers};
+ghost use Rattle.focuspoints.specs.Buffer.{roomNumber, withNumbers};
+ghost use Rattle.focuspoints.specs.Inside.{laidNumbers};
+ghost use Rattle.placing.specs.Load.{focusMeans};
 
 // A size that is given where the first number is not 0.
 fn size_of(given: u32, width: u32, height: u32) -> OptionalSize
@@ -43,21 +45,21 @@ fn put_head(l: Listing, out: &mut [u32])
     out[1] = frame.height;
     out[2] = l.count as u32;
     out[3] = l.index as u32;
-    out[4] = afinfo::focus::mode_number(mode);
-    out[5] = load::focus::origin_number(origin);
+    out[4] = reading::focus::mode_number(mode);
+    out[5] = placing::load::origin_number(origin);
 }
 
 // The listing of a load's points, where it has room: the head's six numbers, and six numbers a point.
 fn put_listing(focus: FocusPoints, out: &mut [u32]) -> u32
     requires { ⌜ (focus .count ≤ 39) × (focus .primary ≤ 39) ⌝ }
-    ensures { λ r. ⌜ (r ≡ roomNumber (6 + 6 * focus .count) (length (now (out .entry)))) × (now (out .exit) ≡ withNumbers (6 + 6 * focus .count) (laidNumbers focus) (now (out .entry))) ⌝ }
+    ensures { λ r. ⌜ (r ≡ roomNumber (6 + 6 * focus .count) (length (now (out .entry)))) × (now (out .exit) ≡ withNumbers (6 + 6 * focus .count) (laidNumbers (focusMeans focus .1)) (now (out .entry))) ⌝ }
 {
     if out.len() < 6 {
         return 13;
     }
     let points = focus.points;
     let count = focus.count;
-    if !listing::write_points(points, count, &mut out[6..]) {
+    if !sheet::listing::write_points(points, count, &mut out[6..]) {
         return 13;
     }
     let frame = focus.frame;
@@ -94,8 +96,8 @@ pub extern "C" fn focuspoints_photograph(
     let focus = placing::nikon::focus(block, raw, picture, model);
     let answer = focus.answer;
     match answer {
-        FocusAnswer::Refused(why) => load::focus::refusal_number(why),
-        FocusAnswer::Placed => put_listing(focus, out),
+        FocusAnswer::Refused(why) => placing::load::refusal_number(why),
+        FocusAnswer::Accepted => put_listing(focus, out),
     }
 }
 
@@ -144,7 +146,7 @@ pub extern "C" fn focuspoints_contents(block: &[u8], out: &mut [u32]) -> u32
     let answer = list.answer;
     match answer {
         ContentsAnswer::Unreadable => 1,
-        ContentsAnswer::Listed => {
+        ContentsAnswer::Tags => {
             let tags = list.tags;
             put_tags(list.count, tags, out)
         }

@@ -14,7 +14,7 @@ use native.Mathlib.Numerals.{add-one}
 use borrow.Author.Tests.{lt-ltb, le-ltb, le-leb, lt-leb, leb-true, eq-eqb, ne-eqb, not-true, not-false}
 use Rattle.laws.proofs.Tests.{both, by-order}
 use Rattle.laws.proofs.Lists.{sets-append}
-use Rattle.hex.specs.declared.Decoded.the-variants.{Malformed, Bytes}
+use Rattle.reading.specs.Outcome.{refused, accepted}
 use Rattle.hex.specs.Hex.{within, digitOf, allDigits, wellFormed, halfOf, bytesOf, decodedOf, bufferOf, sum}
 
 -- ---- a digit
@@ -121,12 +121,12 @@ written-done s o out i h e = rw (take-all i (bytesOf s) (omega (arith, bytes-lon
 
 -- ---- the answer and the buffer
 module _ (s o : List ℕ) (r : Bool) (e : r ≡ wellFormed s) where
-  pub decode-bad : not r ≡ true → (Malformed ≡ decodedOf s) × (o ≡ bufferOf s o)
+  pub decode-bad : not r ≡ true → (refused 14 ≡ decodedOf s) × (o ≡ bufferOf s o)
   unfolding decodedOf bufferOf
   decode-bad n = (rw (← e, not-true r n), rw (← e, not-true r n))
 
   pub decode-good : not r ≡ false → (p : List ℕ) → p ≡ sets o 0 (bytesOf s)
-      → (Bytes (length s / 2) ≡ decodedOf s) × (p ≡ bufferOf s o)
+      → (accepted (length s / 2) ≡ decodedOf s) × (p ≡ bufferOf s o)
   unfolding decodedOf bufferOf
   decode-good n p f = (rw (← e, not-false r n), rw (← e, not-false r n) f)
 

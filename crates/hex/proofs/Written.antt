@@ -12,7 +12,7 @@ use native.Mathlib.Omega.{arith}
 use borrow.Author.Tests.{lt-ltb, le-ltb, le-leb, lt-leb, ltb-true, leb-true, eqb-true}
 use Rattle.laws.proofs.Tests.{by-cond, both, by-order}
 use Rattle.hex.specs.Hex.{within, digitOf, isDigit, allDigits, wellFormed, halfOf, bytesOf}
-use Rattle.hex.specs.Laws.{Bytes, digitFor, lineOf, WrittenIsRead, upper, upperLine, EitherCase, ReadIsBytes, ReadIsWritten}
+use Rattle.hex.specs.Laws.{AreBytes, digitFor, lineOf, WrittenIsRead, upper, upperLine, EitherCase, ReadIsBytes, ReadIsWritten}
 use Rattle.hex.proofs.Laws.{half-in, well-digits}
 
 -- ---- the ranges of characters
@@ -119,7 +119,7 @@ unfolding lineOf
 line-long [] = refl
 line-long (x ∷ b) = omega (arith, line-long b)
 
-line-digits : (b : List ℕ) → Bytes b → allDigits (lineOf b) ≡ true
+line-digits : (b : List ℕ) → AreBytes b → allDigits (lineOf b) ≡ true
 unfolding lineOf allDigits
 line-digits [] h = refl
 line-digits (x ∷ b) h =
@@ -130,7 +130,7 @@ line-digits (x ∷ b) h =
       lt-ltb (x % 16) 16 (half-low x),
     ) (line-digits b (λ i. h (suc i)))
 
-line-back : (b : List ℕ) → Bytes b → bytesOf (lineOf b) ≡ b
+line-back : (b : List ℕ) → AreBytes b → bytesOf (lineOf b) ≡ b
 unfolding lineOf bytesOf
 line-back [] h = refl
 line-back (x ∷ b) h =

@@ -5,6 +5,7 @@ use mathlib.Core.List.{List, [], _∷_}
 use lib.Dec.{leb, ltb, eqb}
 use lib.ListN.{length}
 use lib.Seq.{sets}
+use Rattle.reading.specs.Outcome.{Outcome, refused, accepted}
 use Rattle.hex.specs.declared.Decoded.{Decoded}
 use Rattle.hex.specs.declared.Decoded.the-variants.{Malformed, Bytes}
 
@@ -38,9 +39,14 @@ bytesOf [] = []
 bytesOf (a ∷ []) = []
 bytesOf (a ∷ b ∷ line) = (16 * halfOf a + halfOf b) ∷ bytesOf line
 
--- what decoding answers
-unfoldable pub decodedOf : List ℕ → Decoded
-decodedOf line = cond (wellFormed line) (Bytes (length line / 2)) Malformed
+-- how many bytes a line gives; 14, "call line malformed"
+unfoldable pub decodedOf : List ℕ → Outcome ℕ
+decodedOf line = cond (wellFormed line) (accepted (length line / 2)) (refused 14)
+
+-- what the code's answer means in 01's numbers
+abbrev pub decodedMeans : Decoded → Outcome ℕ
+decodedMeans Malformed = refused 14
+decodedMeans (Bytes n) = accepted n
 
 -- the bytes at the buffer's front, the rest kept; a malformed line leaves the buffer as it was
 unfoldable pub bufferOf : List ℕ → List ℕ → List ℕ

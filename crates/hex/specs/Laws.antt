@@ -9,8 +9,8 @@ use lib.ListN.{length, getD}
 use Rattle.hex.specs.Hex.{within, wellFormed, bytesOf}
 
 -- a list of numbers below 256
-abbrev pub Bytes : List ℕ → Type 0
-Bytes b = (i : ℕ) → getD b i 0 < 256
+abbrev pub AreBytes : List ℕ → Type 0
+AreBytes b = (i : ℕ) → getD b i 0 < 256
 
 -- ---- a line of bytes
 -- the digit of four bits, `0` to `9` or `A` to `F`
@@ -32,7 +32,7 @@ pub record ReadsAs (line b : List ℕ) : Type 0 where
 
 -- what is written is read back, of as many bytes as "at most 4,096 characters" hold
 abbrev pub WrittenIsRead : Type 0
-WrittenIsRead = (b : List ℕ) → Bytes b → 1 ≤ length b → length b ≤ 2048 → ReadsAs (lineOf b) b
+WrittenIsRead = (b : List ℕ) → AreBytes b → 1 ≤ length b → length b ≤ 2048 → ReadsAs (lineOf b) b
 
 -- ---- "either case"
 -- `a` to `f` become `A` to `F`; any other character stays
@@ -53,7 +53,7 @@ EitherCase = (line : List ℕ) → SameInUpper line
 -- ---- and what is read was written so
 -- what is read of a line, well formed or not, is bytes
 abbrev pub ReadIsBytes : Type 0
-ReadIsBytes = (line : List ℕ) → Bytes (bytesOf line)
+ReadIsBytes = (line : List ℕ) → AreBytes (bytesOf line)
 
 -- a well-formed line is, in upper case, the line of its bytes
 abbrev pub ReadIsWritten : Type 0

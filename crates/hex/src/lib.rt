@@ -3,7 +3,7 @@ ghost use mathlib.Core.Path.{_≡_};
 ghost use Prim.Native.Nat.{_+_, _*_, _%_, _<_, _≤_};
 ghost use lib.ListN.{length};
 ghost use lib.Seq.{sets};
-ghost use Rattle.hex.specs.Hex.{within, digitOf, allDigits, wellFormed, halfOf, bytesOf, decodedOf, bufferOf, sum, checks};
+ghost use Rattle.hex.specs.Hex.{within, digitOf, allDigits, wellFormed, halfOf, bytesOf, decodedOf, decodedMeans, bufferOf, sum, checks};
 
 // How a line's decoding ends: the number of its bytes, unless it is malformed.
 pub enum Decoded {
@@ -94,7 +94,7 @@ fn write_bytes(line: &[u8], out: &mut [u8; 2048])
 
 // Writes the bytes of `line` at the front of `out`, and tells how many; a malformed line writes nothing.
 pub fn decode(line: &[u8], out: &mut [u8; 2048]) -> Decoded
-    ensures { λ r. ⌜ (r ≡ decodedOf (now (line .entry))) × (now (out .exit) ≡ bufferOf (now (line .entry)) (now (out .entry))) ⌝ }
+    ensures { λ r. ⌜ (decodedMeans r ≡ decodedOf (now (line .entry))) × (now (out .exit) ≡ bufferOf (now (line .entry)) (now (out .entry))) ⌝ }
 {
     if !is_well_formed(line) {
         return Decoded::Malformed;

@@ -5,13 +5,14 @@ use mathlib.Core.List.{List, [], _∷_, _++_}
 use mathlib.Core.Path.{_≡_, refl, sym, ap, _∙_}
 use lib.ListN.{getD, length}
 use lib.Seq.{getD-at}
-use Rattle.tiff.specs.Outcome.{Outcome, accepted}
+use Rattle.reading.specs.Outcome.{Outcome, accepted}
 use Rattle.placing.specs.Focus.{focusOf}
-use Rattle.load.specs.Load.{Focus}
+use Rattle.placing.specs.Load.{Focus}
 use Rattle.sheet.specs.declared.Sheet.{Sheet}
 use Rattle.sheet.specs.Sheet.{freshSheet, loadSheet}
 use Rattle.journal.specs.Journal.{Journal, empty, Answer, no, journalLoad}
-use Rattle.journal.specs.Calls.{Call, load, journalStep, runJournal, journalAfter, afterLoad, sheetStep, runSheet, sheetAfter}
+use Rattle.journal.specs.Calls.{Call, load, journalStep, runJournal, journalAfter}
+use Rattle.journal.specs.SheetCalls.{afterEdit, sheetStep, runSheet, sheetAfter}
 use Rattle.journal.specs.Claim.{after, answer, LoadOnAny}
 use Rattle.journal.proofs.Claim.{claim}
 
@@ -57,7 +58,7 @@ after-append j [] ds = refl
 after-append j (c ∷ cs) ds = after-append (journalStep j c .1) cs ds
 
 -- an accepted load leaves nothing of the sheet before it
-load-same : (s t : Sheet) (o : Outcome Focus) (f : Focus) → o ≡ accepted f → afterLoad (loadSheet s o) ≡ afterLoad (loadSheet t o)
+load-same : (s t : Sheet) (o : Outcome Focus) (f : Focus) → o ≡ accepted f → afterEdit (loadSheet s o) ≡ afterEdit (loadSheet t o)
 unfolding loadSheet
 load-same s t o f e = rw e
 

@@ -7,8 +7,8 @@ use mathlib.Core.Path.{_≡_, refl, sym, ap, _∙_}
 use lib.ListN.{length, take, length-append}
 use lib.Seq.{take-at}
 use native.Mathlib.Omega.{arith}
-use Rattle.geometry.specs.declared.Size.{Size}
-use Rattle.fitting.specs.declared.focus.FocusPoint.{FocusPoint}
+use Rattle.reading.specs.declared.geometry.Size.{Size}
+use Rattle.placing.specs.declared.focus.FocusPoint.{FocusPoint}
 use Rattle.journal.specs.Journal.{Change, frameBy, frameAfter, movedBy, carried, ifListed, listed}
 
 -- ---- a row and further edits

@@ -14,35 +14,32 @@ use native.Mathlib.Nat.{le-of-lt}
 use native.Mathlib.Numerals.{add-one, sub-one}
 use native.Mathlib.Omega.{arith}
 use borrow.Author.Tests.{lt-ltb, le-leb, lt-leb, ltb-true, ltb-false, eqb-false, ne-eqb}
-use Rattle.tiff.specs.Outcome.{Outcome, refused, accepted}
-use Rattle.geometry.specs.declared.Size.{Size}
-use Rattle.fitting.specs.declared.focus.FocusPoint.{FocusPoint}
-use Rattle.fitting.specs.Fit.{hasZeroSide}
-use Rattle.fitting.specs.Scale.{scaledPoint}
+use Rattle.reading.specs.Outcome.{Outcome, refused, accepted}
+use Rattle.reading.specs.declared.geometry.Size.{Size}
+use Rattle.placing.specs.declared.focus.FocusPoint.{FocusPoint}
+use Rattle.placing.specs.Fit.{hasZeroSide}
+use Rattle.placing.specs.Scale.{scaledPoint}
 use Rattle.placing.specs.Focus.{focusOf}
-use Rattle.load.specs.Load.{Focus, noPoint, refusalOf, refusalNumber, loadNumber}
-use Rattle.load.specs.Sound.{Sound}
+use Rattle.placing.specs.Load.{Focus, noPoint}
+use Rattle.placing.specs.Sound.{Sound}
 use Rattle.placing.proofs.Sound.{focus-sound}
-use Rattle.edits.specs.declared.Edit.{Edit}
-use Rattle.edits.specs.declared.Edit.the-variants.{Cut, Turn, Mirror}
-use Rattle.edits.specs.declared.Placed.{Placed}
-use Rattle.edits.specs.declared.EditAnswer.{EditAnswer}
-use Rattle.edits.specs.declared.EditAnswer.the-variants.{Accepted, Full, BadCut, DropsPrimary, NothingStands}
-use Rattle.listing.specs.declared.ListAnswer.the-variants as answers
+use Rattle.sheet.specs.declared.edits.Edit.{Edit}
+use Rattle.sheet.specs.declared.edits.Edit.the-variants.{Cut, Turn, Mirror}
+use Rattle.sheet.specs.declared.edits.Carried.{Carried}
 use Rattle.sheet.specs.declared.Sheet.{Sheet}
-use Rattle.edits.specs.Place.{wordsOf, moved, placed, cutPasses}
-use Rattle.edits.specs.Answer.{editNumber}
-use Rattle.sheet.specs.Sheet.{edited, freshSheet, loadedSheet, loadSheet, usable, placedAt, presentFrame as frameOf, withEdits, addEdit, ifOpen, turnSheet, mirrorSheet, keepsPrimary, cutSheet, backSheet}
-use Rattle.listing.specs.Listing.{listNumber, headNumbers, flat}
-use Rattle.sheet.specs.Listing.{listed as listedOf, listCount, listIndex, isShort, headIn, listAnswer, listBuffer, scaledAll, fitAnswer, fitBuffer}
-use Rattle.listing.proofs.Buffer.{flat-length}
-use Rattle.load.proofs.Places.{length-places, take-places}
-use Rattle.edits.proofs.Words.{stored-last}
+use Rattle.sheet.specs.Place.{wordsOf, moved, placed, cutPasses}
+use Rattle.sheet.specs.Sheet.{leaves, freshSheet, loadedSheet, loadSheet, usable, placedAt, presentFrame as frameOf, withEdits, addEdit, ifOpen, turnSheet, mirrorSheet, keepsPrimary, cutSheet, backSheet}
+use Rattle.sheet.specs.Listing.{headNumbers, flat}
+use Rattle.sheet.specs.Lists.{listed as listedOf, listCount, listIndex, isShort, headIn, listOutcome, listBuffer, scaledAll, fitOutcome, fitBuffer}
+use Rattle.sheet.proofs.Buffer.{flat-length}
+use Rattle.placing.proofs.Places.{length-places, take-places}
+use Rattle.sheet.proofs.Words.{stored-last}
 use Rattle.journal.specs.Journal.{Change, cut, turn, mirror, Journal, empty, holds, frameAfter, isListed, listed, presentFrame, listing, indexOf, primaryAfter, fitted, Answer, no, ok, ended, head, isBadCut, isFull, changeRefusal, backRefusal, journalLoad, journalChange, journalBack, numbers, written, journalList, journalFit}
-use Rattle.journal.specs.Calls.{Call, load, change, back, list, fit, journalStep, runJournal, numbered, afterEdit, afterLoad, afterList as afterList, changed, sheetStep, runSheet}
+use Rattle.journal.specs.Calls.{Call, load, change, back, list, fit, journalStep, runJournal}
+use Rattle.journal.specs.SheetCalls.{numbered, afterEdit, afterList, changed, sheetStep, runSheet}
 use Rattle.journal.specs.Claim.{Claim}
 use Rattle.journal.proofs.Carry.{but-last}
-use Rattle.journal.proofs.Numbers.{Numbered, number, numbered-load, by-case}
+use Rattle.placing.proofs.Numbers.{Numbered, number, numbered-load}
 use Rattle.journal.proofs.Placed.{changeOf, pointOf, rowAt, row-count, row-kept, placed-frame, placed-more, placed-point, listing-is, flat-numbers}
 
 -- ---- the journal that a sheet stands for
@@ -95,13 +92,13 @@ journal-blank : (s : Sheet) → s .loaded ≡ false → journalOf s ≡ empty
 journal-blank s e = rw e
 
 -- ---- a refused call, and one edit more
-keeps : (s : Sheet) (h : Held s) (a : EditAnswer) (n : ℕ) → numbered (editNumber a) [] ≡ refused n
-    → Agree (afterEdit (edited a s)) (no n [], holds (loadOf s) (rowOf s))
-keeps s h a n e = (ap (λ (o : Outcome (List ℕ)). record { outcome = o; buffer = [] }) e, journal-held s h, held h)
+keeps : (s : Sheet) (h : Held s) (n : ℕ) → numbered n [] ≡ refused n
+    → Agree (afterEdit (leaves n s)) (no n [], holds (loadOf s) (rowOf s))
+keeps s h n e = (ap (λ (o : Outcome (List ℕ)). record { outcome = o; buffer = [] }) e, journal-held s h, held h)
 
 adds : (s : Sheet) (h : Held s) (e : Edit) → s .standing < 64
-    → Agree (afterEdit (edited Accepted (addEdit s e))) (ok [] [], holds (loadOf s) (rowOf s ++ changeOf e ∷ []))
-unfolding addEdit editNumber
+    → Agree (afterEdit (leaves 0 (addEdit s e))) (ok [] [], holds (loadOf s) (rowOf s ++ changeOf e ∷ []))
+unfolding addEdit
 adds s h e l = (
   refl,
   rw (h .loaded) (ap (holds (loadOf s)) row),
@@ -151,7 +148,7 @@ bad-cut s l t w h =
     by false false false true = refl
     by false false false false = refl
 
-is-listed : (q : Placed) → isListed (pointOf q) ≡ q .listed
+is-listed : (q : Carried) → isListed (pointOf q) ≡ q .listed
 is-listed q = by (q .listed)
   where
     by : (b : Bool) → isListed (cond b (some (q .point)) none) ≡ b
@@ -169,31 +166,31 @@ primary-stays s h e =
     (ap isListed (sym more) ∙ is-listed (moved e q))
 
 -- ---- turn and mirror
-plain : (s : Sheet) (h : Held s) (e : Edit) → Agree (afterEdit (ifOpen s (edited Accepted (addEdit s e))))
+plain : (s : Sheet) (h : Held s) (e : Edit) → Agree (afterEdit (ifOpen s (leaves 0 (addEdit s e))))
     (ended (cond (isFull (rowOf s)) (some 8) none) (holds (loadOf s) (rowOf s)) (holds (loadOf s) (rowOf s ++ changeOf e ∷ [])))
-unfolding ifOpen editNumber
+unfolding ifOpen
 plain s h e = rw (usable-held s h, full s) (by (ltb (s .standing) 64) refl)
   where
-    by : (a : Bool) → ltb (s .standing) 64 ≡ a → Agree (afterEdit (cond a (edited Accepted (addEdit s e)) (edited Full s)))
+    by : (a : Bool) → ltb (s .standing) 64 ≡ a → Agree (afterEdit (cond a (leaves 0 (addEdit s e)) (leaves 8 s)))
         (ended (cond (not a) (some 8) none) (holds (loadOf s) (rowOf s)) (holds (loadOf s) (rowOf s ++ changeOf e ∷ [])))
     by true q = adds s h e (ltb-true (s .standing) 64 q)
-    by false q = keeps s h Full 8 refl
+    by false q = keeps s h 8 refl
 
 -- ---- cut
 cuts : (s : Sheet) (h : Held s) (l t w k : ℕ) → Agree (afterEdit (cutSheet s l t w k)) (journalChange (holds (loadOf s) (rowOf s)) (cut l t w k))
-unfolding cutSheet ifOpen journalChange changeRefusal editNumber
+unfolding cutSheet ifOpen journalChange changeRefusal
 cuts s h l t w k =
     rw (usable-held s h, full s, bad-cut s l t w k, primary-stays s h (Cut l t w k))
     (by (ltb (s .standing) 64) refl (cutPasses l t w k (frameOf s)) (keepsPrimary s (Cut l t w k)))
   where
     by : (a : Bool) → ltb (s .standing) 64 ≡ a → (b c : Bool) →
         Agree
-        (afterEdit (cond a (cond b (cond c (edited Accepted (addEdit s (Cut l t w k))) (edited DropsPrimary s)) (edited BadCut s)) (edited Full s)))
+        (afterEdit (cond a (cond b (cond c (leaves 0 (addEdit s (Cut l t w k))) (leaves 10 s)) (leaves 9 s)) (leaves 8 s)))
         (ended (cond (not a) (some 8) (cond (not b) (some 9) (cond c none (some 10)))) (holds (loadOf s) (rowOf s)) (holds (loadOf s) (rowOf s ++ cut l t w k ∷ [])))
     by true q true true = adds s h (Cut l t w k) (ltb-true (s .standing) 64 q)
-    by true q true false = keeps s h DropsPrimary 10 refl
-    by true q false c = keeps s h BadCut 9 refl
-    by false q b c = keeps s h Full 8 refl
+    by true q true false = keeps s h 10 refl
+    by true q false c = keeps s h 9 refl
+    by false q b c = keeps s h 8 refl
 
 changes : (s : Sheet) (h : Held s) (c : Change) → Agree (afterEdit (changed s c)) (journalChange (holds (loadOf s) (rowOf s)) c)
 unfolding turnSheet mirrorSheet journalChange changeRefusal
@@ -203,9 +200,8 @@ changes s h mirror = plain s h Mirror
 
 -- ---- back
 fewer : (s : Sheet) (h : Held s) → (s .standing ≡ 0 → ⊥)
-    → Agree (afterEdit (edited Accepted (withEdits s (s .edits) (s .standing - 1))))
+    → Agree (afterEdit (leaves 0 (withEdits s (s .edits) (s .standing - 1))))
     (ok [] [], holds (loadOf s) (take (length (rowOf s) - 1) (rowOf s)))
-unfolding editNumber
 fewer s h z = (
   refl,
   rw (h .loaded) (ap (holds (loadOf s)) (row (s .standing) z)),
@@ -224,14 +220,14 @@ fewer s h z = (
     row (suc n) y = rw (sub-one (suc n)) (sym (but-last (rowAt (s .edits) n) _))
 
 backs : (s : Sheet) (h : Held s) → Agree (afterEdit (backSheet s)) (journalBack (holds (loadOf s) (rowOf s)))
-unfolding backSheet journalBack backRefusal editNumber
+unfolding backSheet journalBack backRefusal
 backs s h =
     rw (usable-held s h, row-count (s .edits) (s .standing)) (by (eqb (s .standing) 0) refl)
   where
     by : (t : Bool) → eqb (s .standing) 0 ≡ t
-        → Agree (afterEdit (cond t (edited NothingStands s) (edited Accepted (withEdits s (s .edits) (s .standing - 1)))))
+        → Agree (afterEdit (cond t (leaves 11 s) (leaves 0 (withEdits s (s .edits) (s .standing - 1)))))
         (ended (cond t (some 11) none) (holds (loadOf s) (rowOf s)) (holds (loadOf s) (take (s .standing - 1) (rowOf s))))
-    by true q = keeps s h NothingStands 11 refl
+    by true q = keeps s h 11 refl
     by false q = rw (row-count (s .edits) (s .standing)) at (fewer s h (eqb-false (s .standing) 0 q))
 
 -- ---- list and fit
@@ -248,51 +244,47 @@ index-held s h =
 
 -- once the sheet is loaded and the box has no zero side: the points ps, as many as are listed, in the frame f
 writes : (s : Sheet) (h : Held s) (f : Size) (ps : List FocusPoint) (b : List ℕ) → length ps ≡ length (listing (loadOf s) (rowOf s))
-    → afterList (cond (isShort s (length b)) answers.Short (answers.Listed (headIn f s)))
+    → afterList (cond (isShort s (length b)) (refused 13) (accepted (headNumbers (headIn f s))))
     (cond (isShort s (length b)) b (flat ps ++ drop (length (flat ps)) b)) s .0
     ≡ written (loadOf s) (rowOf s) f ps b
-unfolding isShort headIn listCount headNumbers written listNumber
+unfolding isShort headIn listCount headNumbers written
 writes s h f ps b e =
     rw (listed-held s h, index-held s h, flat-length ps, flat-numbers ps, ← e)
     (by (ltb (length b) (6 * length ps)))
   where
-    by : (t : Bool) → _≡_ {A = Answer} (afterList (cond t answers.Short (answers.Listed (record { frame = f; count = length ps; index = indexOf (loadOf s) (rowOf s); mode = s .«area_mode»; origin = s .origin })))
+    by : (t : Bool) → _≡_ {A = Answer} (afterList (cond t (refused 13) (accepted (head (loadOf s) (rowOf s) f ps)))
         (cond t b (numbers ps ++ drop (6 * length ps) b)) s .0)
         (cond t (no 13 b) (ok (head (loadOf s) (rowOf s) f ps) (numbers ps ++ drop (6 * length ps) b)))
     by true = refl
     by false = refl
 
 lists : (s : Sheet) (h : Held s) (b : List ℕ)
-    → afterList (listAnswer s (length b)) (listBuffer s b) s .0 ≡ journalList (holds (loadOf s) (rowOf s)) b
-unfolding listAnswer listBuffer journalList
+    → afterList (listOutcome s (length b)) (listBuffer s b) s .0 ≡ journalList (holds (loadOf s) (rowOf s)) b
+unfolding listOutcome listBuffer journalList
 lists s h b =
     rw (usable-held s h, present-frame s, listed-held s h)
     (writes s h (frameAfter (s .frame) (rowOf s)) (listing (loadOf s) (rowOf s)) b refl)
 
 fits : (s : Sheet) (h : Held s) (box : Size) (b : List ℕ)
-    → afterList (fitAnswer s box (length b)) (fitBuffer s box b) s .0 ≡ journalFit (holds (loadOf s) (rowOf s)) box b
-unfolding fitAnswer fitBuffer scaledAll journalFit listNumber
+    → afterList (fitOutcome s box (length b)) (fitBuffer s box b) s .0 ≡ journalFit (holds (loadOf s) (rowOf s)) box b
+unfolding fitOutcome fitBuffer scaledAll journalFit
 fits s h box b =
     rw (usable-held s h, present-frame s, listed-held s h) (by (hasZeroSide box))
   where
     ps : List FocusPoint
     ps = fitted (loadOf s) (rowOf s) box
 
-    by : (t : Bool) → afterList (cond t answers.ZeroBox (cond (isShort s (length b)) answers.Short (answers.Listed (headIn box s))))
+    by : (t : Bool) → afterList (cond t (refused 12) (cond (isShort s (length b)) (refused 13) (accepted (headNumbers (headIn box s)))))
         (cond t b (cond (isShort s (length b)) b (flat ps ++ drop (length (flat ps)) b))) s .0
         ≡ cond t (no 12 b) (written (loadOf s) (rowOf s) box ps b)
     by true = refl
     by false = writes s h box ps b (length-map (listing (loadOf s) (rowOf s)) (λ p. scaledPoint p (presentFrame (loadOf s) (rowOf s)) box))
 
 -- ---- load
--- a refusal's number, through the case of the enum that has it
-by-number : (n : ℕ) → 1 ≤ n → n ≤ 6 → numbered (refusalNumber (refusalOf n)) [] ≡ refused n
-by-number n a b = rw (by-case n a b, ne-eqb n 0 (λ z. omega arith))
-
-loads : (s : Sheet) (g : Good s) (o : Outcome Focus) → Sound o → Numbered o → Agree (afterLoad (loadSheet s o)) (journalLoad (journalOf s) o)
-unfolding loadSheet loadedSheet journalLoad loadNumber
+loads : (s : Sheet) (g : Good s) (o : Outcome Focus) → Sound o → Numbered o → Agree (afterEdit (loadSheet s o)) (journalLoad (journalOf s) o)
+unfolding loadSheet loadedSheet journalLoad
 loads s g (refused n) d (number _ a b) =
-    (ap (λ (o : Outcome (List ℕ)). record { outcome = o; buffer = [] }) (by-number n a b), refl, g)
+    (ap (λ (o : Outcome (List ℕ)). record { outcome = o; buffer = [] }) (rw (ne-eqb n 0 (λ z. omega (arith, a, z)))), refl, g)
 loads s g (accepted f) d k = (
   refl,
   ap (λ (ps : List FocusPoint). holds (record { frame = f .frame; points = ps; primary = f .primary; mode = f .mode; origin = f .origin }) [])
@@ -312,7 +304,7 @@ abbrev AgreeAt : Sheet → Call → Type 0
 AgreeAt s c = Agree (sheetStep s c) (journalStep (journalOf s) c)
 
 blank-step : (s : Sheet) (e : s .loaded ≡ false) (c : Call) → AgreeAt s c
-unfolding sheetStep journalStep turnSheet mirrorSheet backSheet cutSheet ifOpen listAnswer listBuffer fitAnswer fitBuffer editNumber listNumber journalChange journalBack journalList journalFit
+unfolding sheetStep journalStep turnSheet mirrorSheet backSheet cutSheet ifOpen listOutcome listBuffer fitOutcome fitBuffer journalChange journalBack journalList journalFit
 blank-step s e (load block raw picture model) =
     loads s (blank e) (focusOf block raw picture model) (focus-sound block raw picture model) (numbered-load block raw picture model)
 blank-step s e (change (cut l t w h)) = rw (usable-blank s e, journal-blank s e) (refl, refl, blank e)

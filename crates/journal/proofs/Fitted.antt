@@ -6,13 +6,13 @@ use mathlib.Core.Bool.{true}
 use lib.ListN.{getD, length, length-map}
 use native.Mathlib.Omega.{arith}
 use borrow.Author.Tests.{le-ltb}
-use Rattle.geometry.specs.declared.Size.{Size}
-use Rattle.fitting.specs.declared.focus.FocusPoint.{FocusPoint}
-use Rattle.fitting.specs.Fit.{pointFits}
-use Rattle.fitting.specs.Scale.{scaledPoint}
-use Rattle.fitting.proofs.Fitting.{fits-on-frame}
-use Rattle.fitting.proofs.Scaled.{scaled-fits, scaled-near}
-use Rattle.load.specs.Load.{Focus, noPoint}
+use Rattle.reading.specs.declared.geometry.Size.{Size}
+use Rattle.placing.specs.declared.focus.FocusPoint.{FocusPoint}
+use Rattle.placing.specs.Fit.{pointFits}
+use Rattle.placing.specs.Scale.{scaledPoint}
+use Rattle.placing.proofs.Fitting.{fits-on-frame}
+use Rattle.placing.proofs.Scaled.{scaled-fits, scaled-near}
+use Rattle.placing.specs.Load.{Focus, noPoint}
 use Rattle.journal.specs.Journal.{Change, holds, presentFrame, listing, fitted, written, journalFit}
 use Rattle.journal.specs.Calls.{fit, journalStep}
 use Rattle.journal.specs.Claim.{FitsExactly, FitIsNear}

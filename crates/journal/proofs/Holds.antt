@@ -10,15 +10,15 @@ use lib.Dec.{leb}
 use lib.ListN.{getD, length, take, drop, take-append-drop, length-append}
 use native.Mathlib.Omega.{arith}
 use borrow.Author.Tests.{leb-false}
-use Rattle.tiff.specs.Outcome.{Outcome, refused, accepted}
-use Rattle.geometry.specs.declared.Size.{Size}
-use Rattle.fitting.specs.declared.focus.FocusPoint.{FocusPoint}
-use Rattle.fitting.specs.Fit.{pointFits}
+use Rattle.reading.specs.Outcome.{Outcome, refused, accepted}
+use Rattle.reading.specs.declared.geometry.Size.{Size}
+use Rattle.placing.specs.declared.focus.FocusPoint.{FocusPoint}
+use Rattle.placing.specs.Fit.{pointFits}
 use Rattle.laws.proofs.Tests.{both}
-use Rattle.fitting.proofs.Fitting.{fits-mirrored, fits-swapped}
+use Rattle.placing.proofs.Fitting.{fits-mirrored, fits-swapped}
 use Rattle.placing.specs.Focus.{focusOf}
-use Rattle.load.specs.Load.{Focus, noPoint}
-use Rattle.load.specs.Sound.{Sound, SoundFocus, AllFit}
+use Rattle.placing.specs.Load.{Focus, noPoint}
+use Rattle.placing.specs.Sound.{Sound, SoundFocus, AllFit}
 use Rattle.placing.proofs.Sound.{focus-sound}
 use Rattle.journal.specs.Journal.{Change, cut, turn, mirror, Journal, empty, holds, frameBy, pointBy, staysListed, frameAfter, movedBy, carried, isListed, ifListed, listed, presentFrame, primaryOf, primaryAfter, ended, isBadCut, cutRefusal, changeRefusal, backRefusal, journalLoad, journalChange, journalBack}
 use Rattle.journal.specs.Calls.{Call, load, change, back, list, fit, journalStep, journalAfter}

@@ -7,23 +7,20 @@ use mathlib.Core.Logic.{_⊎_, inl, inr}
 use mathlib.Core.Path.{_≡_, refl}
 use lib.Dec.{ltb, eqb}
 use lib.ListN.{length}
-use Rattle.tiff.specs.Outcome.{Outcome, refused, accepted}
-use Rattle.geometry.specs.declared.Size.{Size}
-use Rattle.fitting.specs.Fit.{hasZeroSide}
+use Rattle.reading.specs.Outcome.{Outcome, refused, accepted}
+use Rattle.reading.specs.declared.geometry.Size.{Size}
+use Rattle.placing.specs.Fit.{hasZeroSide}
 use Rattle.placing.specs.Focus.{focusOf}
-use Rattle.load.specs.Load.{Focus, loadNumber}
-use Rattle.edits.specs.declared.Edit.the-variants.{Cut}
-use Rattle.edits.specs.declared.EditAnswer.the-variants.{Accepted, Empty, Full, BadCut, DropsPrimary, NothingStands}
-use Rattle.listing.specs.declared.ListAnswer.the-variants as answers
+use Rattle.placing.specs.Load.{Focus}
+use Rattle.sheet.specs.declared.edits.Edit.the-variants.{Cut}
 use Rattle.sheet.specs.declared.Sheet.{Sheet}
-use Rattle.sheet.specs.declared.Edited.{Edited}
-use Rattle.edits.specs.Answer.{editNumber}
-use Rattle.sheet.specs.Sheet.{edited, loadSheet, usable, presentFrame, withEdits, addEdit, ifOpen, turnSheet, mirrorSheet, keepsPrimary, cutSheet, backSheet}
-use Rattle.edits.specs.Place.{cutPasses}
-use Rattle.listing.specs.Listing.{listNumber, over, flat}
-use Rattle.sheet.specs.Listing.{listed as listedOf, isShort, headIn, scaledAll, listAnswer, listBuffer, fitAnswer, fitBuffer}
+use Rattle.sheet.specs.Sheet.{leaves, loadSheet, usable, presentFrame, withEdits, addEdit, ifOpen, turnSheet, mirrorSheet, keepsPrimary, cutSheet, backSheet}
+use Rattle.sheet.specs.Place.{cutPasses}
+use Rattle.sheet.specs.Listing.{headNumbers, over, flat}
+use Rattle.sheet.specs.Lists.{listed as listedOf, isShort, headIn, scaledAll, listOutcome, listBuffer, fitOutcome, fitBuffer}
 use Rattle.journal.specs.Journal.{Change, cut, turn, mirror, Answer}
-use Rattle.journal.specs.Calls.{Call, load, change, back, list, fit, lent, afterEdit, afterLoad, afterList, changed, sheetStep}
+use Rattle.journal.specs.Calls.{Call, load, change, back, list, fit, lent}
+use Rattle.journal.specs.SheetCalls.{afterEdit, afterList, changed, sheetStep}
 use Rattle.journal.specs.Claim.{RefusedKeeps}
 
 abbrev isAccepted : Outcome (List ℕ) → Bool
@@ -34,19 +31,18 @@ isAccepted (accepted given) = true
 abbrev Keeps : Answer × Sheet → Sheet → List ℕ → Type 0
 Keeps r s b = (isAccepted (r .0 .outcome) ≡ true) ⊎ ((r .1 ≡ s) × (r .0 .buffer ≡ b))
 
-abbrev KeepsEdited : Edited → Sheet → Type 0
-KeepsEdited r s = (r .answer ≡ Accepted) ⊎ (r .sheet ≡ s)
+abbrev KeepsEdited : ℕ × Sheet → Sheet → Type 0
+KeepsEdited r s = (r .0 ≡ 0) ⊎ (r .1 ≡ s)
 
-keeps-edited : {r : Edited} {s : Sheet} → KeepsEdited r s → Keeps (afterEdit r) s []
-unfolding editNumber
+keeps-edited : {r : ℕ × Sheet} {s : Sheet} → KeepsEdited r s → Keeps (afterEdit r) s []
 keeps-edited (inl e) = inl (rw e)
 keeps-edited (inr e) = inr (e, refl)
 
-opens : (s : Sheet) (r : Edited) → KeepsEdited r s → KeepsEdited (ifOpen s r) s
+opens : (s : Sheet) (r : ℕ × Sheet) → KeepsEdited r s → KeepsEdited (ifOpen s r) s
 unfolding ifOpen
 opens s r k = by (usable s) (ltb (s .standing) 64)
   where
-    by : (a b : Bool) → KeepsEdited (cond a (cond b r (edited Full s)) (edited Empty s)) s
+    by : (a b : Bool) → KeepsEdited (cond a (cond b r (leaves 8 s)) (leaves 7 s)) s
     by true true = k
     by true false = inr refl
     by false b = inr refl
@@ -55,7 +51,7 @@ cuts : (s : Sheet) (l t w h : ℕ) → KeepsEdited (cutSheet s l t w h) s
 unfolding cutSheet
 cuts s l t w h = opens s _ (by (cutPasses l t w h (presentFrame s)) (keepsPrimary s (Cut l t w h)))
   where
-    by : (a b : Bool) → KeepsEdited (cond a (cond b (edited Accepted (addEdit s (Cut l t w h))) (edited DropsPrimary s)) (edited BadCut s)) s
+    by : (a b : Bool) → KeepsEdited (cond a (cond b (leaves 0 (addEdit s (Cut l t w h))) (leaves 10 s)) (leaves 9 s)) s
     by true true = inl refl
     by true false = inr refl
     by false b = inr refl
@@ -70,30 +66,30 @@ backs : (s : Sheet) → KeepsEdited (backSheet s) s
 unfolding backSheet
 backs s = by (usable s) (eqb (s .standing) 0)
   where
-    by : (a b : Bool) → KeepsEdited (cond a (cond b (edited NothingStands s) (edited Accepted (withEdits s (s .edits) (s .standing - 1)))) (edited Empty s)) s
+    by : (a b : Bool) → KeepsEdited (cond a (cond b (leaves 11 s) (leaves 0 (withEdits s (s .edits) (s .standing - 1)))) (leaves 7 s)) s
     by true true = inr refl
     by true false = inl refl
     by false b = inr refl
 
-loads : (s : Sheet) (o : Outcome Focus) → Keeps (afterLoad (loadSheet s o)) s []
-unfolding loadSheet loadNumber
+loads : (s : Sheet) (o : Outcome Focus) → Keeps (afterEdit (loadSheet s o)) s []
+unfolding loadSheet
 loads s (refused n) = inr (refl, refl)
 loads s (accepted f) = inl refl
 
-lists : (s : Sheet) (b : List ℕ) → Keeps (afterList (listAnswer s (length b)) (listBuffer s b) s) s b
-unfolding listAnswer listBuffer listNumber
+lists : (s : Sheet) (b : List ℕ) → Keeps (afterList (listOutcome s (length b)) (listBuffer s b) s) s b
+unfolding listOutcome listBuffer
 lists s b = by (usable s) (isShort s (length b))
   where
-    by : (u v : Bool) → Keeps (afterList (cond u (cond v answers.Short (answers.Listed (headIn (presentFrame s) s))) answers.Empty) (cond u (cond v b (over (flat (listedOf s)) b)) b) s) s b
+    by : (u v : Bool) → Keeps (afterList (cond u (cond v (refused 13) (accepted (headNumbers (headIn (presentFrame s) s)))) (refused 7)) (cond u (cond v b (over (flat (listedOf s)) b)) b) s) s b
     by true true = inr (refl, refl)
     by true false = inl refl
     by false v = inr (refl, refl)
 
-fits : (s : Sheet) (box : Size) (b : List ℕ) → Keeps (afterList (fitAnswer s box (length b)) (fitBuffer s box b) s) s b
-unfolding fitAnswer fitBuffer listNumber
+fits : (s : Sheet) (box : Size) (b : List ℕ) → Keeps (afterList (fitOutcome s box (length b)) (fitBuffer s box b) s) s b
+unfolding fitOutcome fitBuffer
 fits s box b = by (usable s) (hasZeroSide box) (isShort s (length b))
   where
-    by : (u z v : Bool) → Keeps (afterList (cond u (cond z answers.ZeroBox (cond v answers.Short (answers.Listed (headIn box s)))) answers.Empty) (cond u (cond z b (cond v b (over (flat (scaledAll (presentFrame s) box (listedOf s))) b))) b) s) s b
+    by : (u z v : Bool) → Keeps (afterList (cond u (cond z (refused 12) (cond v (refused 13) (accepted (headNumbers (headIn box s))))) (refused 7)) (cond u (cond z b (cond v b (over (flat (scaledAll (presentFrame s) box (listedOf s))) b))) b) s) s b
     by true true v = inr (refl, refl)
     by true false true = inr (refl, refl)
     by true false false = inl refl

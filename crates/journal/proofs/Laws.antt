@@ -9,13 +9,13 @@ use lib.ListN.{length, take, replicate, length-append}
 use native.Mathlib.Nat.{sub-zero}
 use native.Mathlib.Omega.{arith}
 use borrow.Author.Tests.{le-leb, lt-leb, ne-eqb}
-use Rattle.tiff.specs.Outcome.{Outcome, refused, accepted}
-use Rattle.geometry.specs.declared.Size.{Size}
-use Rattle.fitting.specs.declared.focus.FocusPoint.{FocusPoint}
-use Rattle.fitting.specs.Fit.{pointFits}
-use Rattle.fitting.proofs.Fitting.{fits-on-frame}
-use Rattle.load.specs.Load.{Focus}
-use Rattle.load.specs.Sound.{SoundFocus, AllFit}
+use Rattle.reading.specs.Outcome.{Outcome, refused, accepted}
+use Rattle.reading.specs.declared.geometry.Size.{Size}
+use Rattle.placing.specs.declared.focus.FocusPoint.{FocusPoint}
+use Rattle.placing.specs.Fit.{pointFits}
+use Rattle.placing.proofs.Fitting.{fits-on-frame}
+use Rattle.placing.specs.Load.{Focus}
+use Rattle.placing.specs.Sound.{SoundFocus, AllFit}
 use Rattle.journal.specs.Journal.{Change, cut, turn, mirror, Journal, empty, holds, frameAfter, movedBy, carried, isListed, ifListed, listed, presentFrame, listing, indexOf, primaryOf, primaryAfter, Answer, ok, ended, changeRefusal, backRefusal, journalChange, journalBack, written, journalList, journalFit}
 use Rattle.journal.specs.Calls.{Call, change, back, list, fit, journalStep, journalAfter}
 use Rattle.journal.specs.Claim.{after}

@@ -1,6 +1,5 @@
 pub mod Carry
 pub mod Placed
-pub mod Numbers
 pub mod Claim
 pub mod Kept
 pub mod Holds

@@ -8,18 +8,18 @@ use mathlib.Core.Path.{_≡_, refl, sym, ap, ap₂, _∙_}
 use lib.ListN.{getD, length, take, length-append}
 use lib.Seq.{sets, take-suc}
 use native.Mathlib.Omega.{arith}
-use Rattle.geometry.specs.declared.Size.{Size}
-use Rattle.fitting.specs.declared.focus.FocusPoint.{FocusPoint}
-use Rattle.load.specs.Load.{noPoint}
-use Rattle.edits.specs.declared.Edit.{Edit}
-use Rattle.edits.specs.declared.Edit.the-variants.{Cut, Turn, Mirror}
-use Rattle.edits.specs.declared.Placed.{Placed}
+use Rattle.reading.specs.declared.geometry.Size.{Size}
+use Rattle.placing.specs.declared.focus.FocusPoint.{FocusPoint}
+use Rattle.placing.specs.Load.{noPoint}
+use Rattle.sheet.specs.declared.edits.Edit.{Edit}
+use Rattle.sheet.specs.declared.edits.Edit.the-variants.{Cut, Turn, Mirror}
+use Rattle.sheet.specs.declared.edits.Carried.{Carried}
 use Rattle.sheet.specs.declared.Sheet.{Sheet}
-use Rattle.edits.specs.Place.{editAt, staysOn, cutPoint, moved, placed}
+use Rattle.sheet.specs.Place.{editAt, staysOn, cutPoint, moved, placed}
 use Rattle.sheet.specs.Sheet.{placedAt}
-use Rattle.sheet.specs.Listing.{ifListed as ifPlaced, listing}
-use Rattle.listing.specs.Listing.{six, flat}
-use Rattle.edits.proofs.Words.{stored-kept}
+use Rattle.sheet.specs.Lists.{ifCarried, listing}
+use Rattle.sheet.specs.Listing.{six, flat}
+use Rattle.sheet.proofs.Words.{stored-kept}
 use Rattle.journal.specs.Journal.{Change, cut, turn, mirror, frameBy, movedBy, frameAfter, carried, ifListed, listed, numbers}
 use Rattle.journal.proofs.Carry.{frame-snoc, carried-snoc, listed-snoc}
 
@@ -29,21 +29,21 @@ changeOf (Cut l t w h) = cut l t w h
 changeOf Turn = turn
 changeOf Mirror = mirror
 
-abbrev pub pointOf : Placed → Option FocusPoint
+abbrev pub pointOf : Carried → Option FocusPoint
 pointOf q = cond (q .listed) (some (q .point)) none
 
-pub moved-frame : (e : Edit) (q : Placed) → moved e q .frame ≡ frameBy (changeOf e) (q .frame)
+pub moved-frame : (e : Edit) (q : Carried) → moved e q .frame ≡ frameBy (changeOf e) (q .frame)
 unfolding moved cutPoint
 moved-frame (Cut l t w h) q = refl
 moved-frame Turn q = refl
 moved-frame Mirror q = refl
 
-pub moved-point : (e : Edit) (q : Placed) → pointOf (moved e q) ≡ movedBy (changeOf e) (q .frame) (pointOf q)
+pub moved-point : (e : Edit) (q : Carried) → pointOf (moved e q) ≡ movedBy (changeOf e) (q .frame) (pointOf q)
 unfolding moved cutPoint staysOn
 moved-point e q = by e (q .listed)
   where
     by : (e : Edit) (b : Bool) →
-        let r : Placed = record { listed = b; point = q .point; frame = q .frame } in
+        let r : Carried = record { listed = b; point = q .point; frame = q .frame } in
         pointOf (moved e r) ≡ movedBy (changeOf e) (q .frame) (pointOf r)
     by (Cut l t w h) true = refl
     by (Cut l t w h) false = refl
@@ -90,7 +90,7 @@ module _ (f : Size) (p : FocusPoint) (ws : List ℕ) where
   placed-point (suc n) = placed-more (editAt ws n) n (placed-point n)
 
 -- ---- the listing
-if-listed : (q : Placed) → ifPlaced q ≡ ifListed (pointOf q)
+if-listed : (q : Carried) → ifCarried q ≡ ifListed (pointOf q)
 if-listed q = by (q .listed)
   where
     by : (b : Bool) → cond b (q .point ∷ []) [] ≡ ifListed (cond b (some (q .point)) none)

@@ -10,14 +10,14 @@ use lib.Dec.{leb, ltb, eqb}
 use lib.ListN.{length, drop}
 use native.Mathlib.Omega.{arith}
 use borrow.Author.Tests.{lt-ltb, le-ltb, le-leb, lt-leb, eq-eqb, ne-eqb, ltb-true, ltb-false, leb-true, leb-false, eqb-true, eqb-false}
-use Rattle.tiff.specs.Outcome.{Outcome, refused, accepted}
-use Rattle.geometry.specs.declared.Size.{Size}
-use Rattle.geometry.specs.declared.OptionalSize.{OptionalSize}
-use Rattle.fitting.specs.declared.focus.FocusPoint.{FocusPoint}
-use Rattle.fitting.specs.Fit.{hasZeroSide}
+use Rattle.reading.specs.Outcome.{Outcome, refused, accepted}
+use Rattle.reading.specs.declared.geometry.Size.{Size}
+use Rattle.reading.specs.declared.geometry.OptionalSize.{OptionalSize}
+use Rattle.placing.specs.declared.focus.FocusPoint.{FocusPoint}
+use Rattle.placing.specs.Fit.{hasZeroSide}
 use Rattle.laws.proofs.Tests.{neither, or-first, or-second}
 use Rattle.placing.specs.Focus.{focusOf}
-use Rattle.load.specs.Load.{Focus}
+use Rattle.placing.specs.Load.{Focus}
 use Rattle.journal.specs.Journal.{Change, cut, turn, mirror, Journal, empty, holds, isListed, presentFrame, listing, primaryAfter, fitted, Answer, no, ok, ended, isBadCut, cutRefusal, changeRefusal, backRefusal, journalLoad, journalChange, journalBack, head, numbers, written, journalList, journalFit}
 use Rattle.journal.specs.Calls.{Call, load, change, back, list, fit, lent, journalStep, journalAfter}
 use Rattle.journal.specs.Claim.{after, newest, lastFrom, heldLoad, HoldsLastLoad, isLoad, EmptyBefore, BadCut, GoodCut, Refuses, notLoaded, isEmpty, full, badCut, dropsPrimary, nothingStands, zeroBox, short, shortFit, RefusedExactly}

@@ -9,9 +9,9 @@ use lib.ListN.{getD, length, take, drop, length-append}
 use lib.Seq.{split-at, take-append-seam, getD-append-seam}
 use native.Mathlib.Omega.{arith}
 use borrow.Author.Tests.{le-ltb}
-use Rattle.geometry.specs.declared.Size.{Size}
-use Rattle.fitting.specs.declared.focus.FocusPoint.{FocusPoint}
-use Rattle.load.specs.Load.{Focus, noPoint}
+use Rattle.reading.specs.declared.geometry.Size.{Size}
+use Rattle.placing.specs.declared.focus.FocusPoint.{FocusPoint}
+use Rattle.placing.specs.Load.{Focus, noPoint}
 use Rattle.journal.specs.Journal.{Change, holds, frameBy, pointBy, staysListed, carried, isListed, ifListed, listed, presentFrame, listing, primaryOf, primaryAfter, written, journalList}
 use Rattle.journal.specs.Calls.{list, journalStep}
 use Rattle.journal.specs.Claim.{placeAfter, fitsEveryCut, filtered, shownOf, shown, ListingIsShown, ListsExactly, PrimaryListed, PrimaryIsListed, ListedFits}

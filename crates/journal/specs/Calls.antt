@@ -1,24 +1,10 @@
--- Lists of calls: what the journal answers to them, and what the sheet does.
+-- Lists of calls, and what the journal answers to them. Of the sheet nothing is said here.
 use Prim.Native.Nat.{ℕ}
-use mathlib.Core.Bool.{cond}
 use mathlib.Core.List.{List, [], _∷_}
-use lib.Dec.{eqb}
-use lib.ListN.{length}
-use Rattle.tiff.specs.Outcome.{Outcome, refused, accepted}
-use Rattle.geometry.specs.declared.Size.{Size}
-use Rattle.geometry.specs.declared.OptionalSize.{OptionalSize}
+use Rattle.reading.specs.declared.geometry.Size.{Size}
+use Rattle.reading.specs.declared.geometry.OptionalSize.{OptionalSize}
 use Rattle.placing.specs.Focus.{focusOf}
-use Rattle.sheet.specs.declared.Sheet.{Sheet}
-use Rattle.sheet.specs.declared.Edited.{Edited}
-use Rattle.sheet.specs.declared.Loaded.{Loaded}
-use Rattle.listing.specs.declared.ListAnswer.{ListAnswer}
-use Rattle.listing.specs.declared.ListAnswer.the-variants.{Empty, ZeroBox, Short, Listed}
-use Rattle.edits.specs.Answer.{editNumber}
-use Rattle.load.specs.Load.{loadNumber}
-use Rattle.sheet.specs.Sheet.{loadSheet, turnSheet, mirrorSheet, backSheet, cutSheet}
-use Rattle.listing.specs.Listing.{listNumber, headNumbers}
-use Rattle.sheet.specs.Listing.{listAnswer, listBuffer, fitAnswer, fitBuffer}
-use Rattle.journal.specs.Journal.{Change, cut, turn, mirror, Journal, Answer, journalLoad, journalChange, journalBack, journalList, journalFit}
+use Rattle.journal.specs.Journal.{Change, Journal, Answer, journalLoad, journalChange, journalBack, journalList, journalFit}
 
 -- a call with its arguments, except the sheet
 pub data Call : Type 0 where
@@ -40,7 +26,7 @@ lent back = []
 lent (list buffer) = buffer
 lent (fit box buffer) = buffer
 
--- ---- the journal
+-- how a call ends, and the journal after it
 unfoldable pub journalStep : Journal → Call → Answer × Journal
 journalStep j (load block raw picture model) = journalLoad j (focusOf block raw picture model)
 journalStep j (change c) = journalChange j c
@@ -56,44 +42,3 @@ runJournal j (c ∷ cs) = journalStep j c .0 ∷ runJournal (journalStep j c .1)
 unfoldable pub journalAfter : Journal → List Call → Journal
 journalAfter j [] = j
 journalAfter j (c ∷ cs) = journalAfter (journalStep j c .1) cs
-
--- ---- the sheet, by the definitions that its contracts promise
--- a call that ends with one of 01's numbers, 0 if it is accepted with what it gives
-abbrev pub numbered : ℕ → List ℕ → Outcome (List ℕ)
-numbered n given = cond (eqb n 0) (accepted given) (refused n)
-
-abbrev pub afterEdit : Edited → Answer × Sheet
-afterEdit r = (record { outcome = numbered (editNumber (r .answer)) []; buffer = [] }, r .sheet)
-
-abbrev pub afterLoad : Loaded → Answer × Sheet
-afterLoad r = (record { outcome = numbered (loadNumber (r .answer)) []; buffer = [] }, r .sheet)
-
--- what list and fit give
-abbrev pub given : ListAnswer → List ℕ
-given Empty = []
-given ZeroBox = []
-given Short = []
-given (Listed l) = headNumbers l
-
-abbrev pub afterList : ListAnswer → List ℕ → Sheet → Answer × Sheet
-afterList a buffer s = (record { outcome = numbered (listNumber a) (given a); buffer = buffer }, s)
-
-abbrev pub changed : Sheet → Change → Edited
-changed s (cut left top width height) = cutSheet s left top width height
-changed s turn = turnSheet s
-changed s mirror = mirrorSheet s
-
-unfoldable pub sheetStep : Sheet → Call → Answer × Sheet
-sheetStep s (load block raw picture model) = afterLoad (loadSheet s (focusOf block raw picture model))
-sheetStep s (change c) = afterEdit (changed s c)
-sheetStep s back = afterEdit (backSheet s)
-sheetStep s (list buffer) = afterList (listAnswer s (length buffer)) (listBuffer s buffer) s
-sheetStep s (fit box buffer) = afterList (fitAnswer s box (length buffer)) (fitBuffer s box buffer) s
-
-unfoldable pub runSheet : Sheet → List Call → List Answer
-runSheet s [] = []
-runSheet s (c ∷ cs) = sheetStep s c .0 ∷ runSheet (sheetStep s c .1) cs
-
-unfoldable pub sheetAfter : Sheet → List Call → Sheet
-sheetAfter s [] = s
-sheetAfter s (c ∷ cs) = sheetAfter (sheetStep s c .1) cs

@@ -1,6 +1,6 @@
 -- Demand 3, as one claim over every list of calls, and what follows from it, in demand 3's words. proofs/Claim.antt proves the
 -- claim; what follows is proved in proofs/Answers.antt (any sheet that is loaded), Shown.antt (what is listed), Fitted.antt,
--- Refusals.antt, Numbers.antt (1 to 6) and Kept.antt (a refused call).
+-- Refusals.antt and Kept.antt (a refused call).
 use Prim.Native.Nat.{ℕ, _+_, _*_, _≤_, _<_}
 use mathlib.Core.Bool.{Bool, true, false, _&&_, cond}
 use mathlib.Core.List.{List, [], _∷_, _++_, map}
@@ -8,18 +8,19 @@ use mathlib.Core.Logic.{_↔_, _⊎_}
 use mathlib.Core.Option.{Option, none, some}
 use mathlib.Core.Path.{_≡_}
 use lib.ListN.{getD, length, take, drop}
-use Rattle.tiff.specs.Outcome.{Outcome, refused, accepted}
-use Rattle.geometry.specs.declared.Size.{Size}
-use Rattle.geometry.specs.declared.OptionalSize.{OptionalSize}
-use Rattle.fitting.specs.declared.focus.FocusPoint.{FocusPoint}
-use Rattle.fitting.specs.Fit.{hasZeroSide, pointFits}
-use Rattle.fitting.specs.Laws.{CenterNear, OnFrame}
+use Rattle.reading.specs.Outcome.{Outcome, refused, accepted}
+use Rattle.reading.specs.declared.geometry.Size.{Size}
+use Rattle.reading.specs.declared.geometry.OptionalSize.{OptionalSize}
+use Rattle.placing.specs.declared.focus.FocusPoint.{FocusPoint}
+use Rattle.placing.specs.Fit.{hasZeroSide, pointFits}
+use Rattle.placing.specs.FittingLaws.{CenterNear, OnFrame}
 use Rattle.placing.specs.Focus.{focusOf}
-use Rattle.load.specs.Load.{Focus, noPoint}
+use Rattle.placing.specs.Load.{Focus, noPoint}
 use Rattle.sheet.specs.declared.Sheet.{Sheet}
 use Rattle.sheet.specs.Sheet.{freshSheet}
 use Rattle.journal.specs.Journal.{Change, cut, Journal, empty, holds, frameBy, pointBy, staysListed, presentFrame, listing, indexOf, primaryOf, primaryAfter, fitted, Answer, no, ok, numbers, head}
-use Rattle.journal.specs.Calls.{Call, load, change, back, list, fit, lent, runJournal, journalAfter, sheetStep, runSheet, sheetAfter}
+use Rattle.journal.specs.Calls.{Call, load, change, back, list, fit, lent, runJournal, journalAfter}
+use Rattle.journal.specs.SheetCalls.{sheetStep, runSheet, sheetAfter}
 
 -- "Demand 3 is a single claim about a whole list of calls. .. The list starts from the fresh sheet, which is empty. .. Each call of
 -- the list answers the book's number or is accepted with it."
@@ -172,12 +173,6 @@ pub data Refuses : Journal → Call → ℕ → Type 0 where
 abbrev pub RefusedExactly : Type 0
 RefusedExactly =
     (calls : List Call) (c : Call) (n : ℕ) → (answer calls c .outcome ≡ refused n) ↔ Refuses (after calls) c n
-
--- "Load can give 1 to 6"
-abbrev pub LoadNumbers : Type 0
-LoadNumbers =
-    (block : List ℕ) (raw picture : OptionalSize) (model : List ℕ) (n : ℕ) →
-    focusOf block raw picture model ≡ refused n → (1 ≤ n) × (n ≤ 6)
 
 -- on every sheet, also one made by hand, a refused call leaves sheet and buffer as they were
 abbrev pub RefusedKeeps : Type 0

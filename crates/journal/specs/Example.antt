@@ -4,11 +4,12 @@ use Prim.Native.Nat.{ℕ}
 use mathlib.Core.List.{List, [], _∷_}
 use mathlib.Core.Path.{_≡_}
 use lib.ListN.{replicate}
-use Rattle.geometry.specs.declared.OptionalSize.the-variants.{Missing}
-use Rattle.named.specs.Points.{d600}
+use Rattle.reading.specs.declared.geometry.OptionalSize.the-variants.{Missing}
+use Rattle.placing.specs.Points.{d600}
 use Rattle.sheet.specs.Sheet.{freshSheet}
 use Rattle.journal.specs.Journal.{cut, turn, ok}
-use Rattle.journal.specs.Calls.{Call, load, change, list, runSheet}
+use Rattle.journal.specs.Calls.{Call, load, change, list}
+use Rattle.journal.specs.SheetCalls.{runSheet}
 
 -- a directory of one entry, 00B7, of 30 bytes: version 0100, layout code 3, primary 1, marked 1 and 16. The cut drops 16
 abbrev block : List ℕ

@@ -7,13 +7,13 @@ use mathlib.Core.List.{List, [], _∷_, _++_, map}
 use mathlib.Core.Option.{Option, none, some}
 use lib.Dec.{leb, ltb, eqb}
 use lib.ListN.{getD, length, take, drop}
-use Rattle.afinfo.specs.Focus.{inFocusNumber, modeNumber}
-use Rattle.tiff.specs.Outcome.{Outcome, refused, accepted}
-use Rattle.geometry.specs.declared.Size.{Size}
-use Rattle.fitting.specs.declared.focus.FocusPoint.{FocusPoint}
-use Rattle.fitting.specs.Fit.{hasZeroSide, pointFits}
-use Rattle.fitting.specs.Scale.{scaledPoint}
-use Rattle.load.specs.Load.{Focus, noPoint, originNumber}
+use Rattle.reading.specs.Focus.{inFocusNumber, modeNumber}
+use Rattle.reading.specs.Outcome.{Outcome, refused, accepted}
+use Rattle.reading.specs.declared.geometry.Size.{Size}
+use Rattle.placing.specs.declared.focus.FocusPoint.{FocusPoint}
+use Rattle.placing.specs.Fit.{hasZeroSide, pointFits}
+use Rattle.placing.specs.Scale.{scaledPoint}
+use Rattle.placing.specs.Load.{Focus, noPoint, originNumber}
 
 -- an edit: "Cut left, top, width, height", turn (a clockwise quarter rotation), mirror
 pub data Change : Type 0 where

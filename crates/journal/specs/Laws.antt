@@ -5,9 +5,9 @@ use mathlib.Core.List.{List, [], _∷_, _++_}
 use mathlib.Core.Option.{none, some}
 use mathlib.Core.Path.{_≡_}
 use lib.ListN.{length, replicate}
-use Rattle.geometry.specs.declared.Size.{Size}
-use Rattle.fitting.specs.declared.focus.FocusPoint.{FocusPoint}
-use Rattle.load.specs.Load.{Focus}
+use Rattle.reading.specs.declared.geometry.Size.{Size}
+use Rattle.placing.specs.declared.focus.FocusPoint.{FocusPoint}
+use Rattle.placing.specs.Load.{Focus}
 use Rattle.journal.specs.Journal.{Change, cut, turn, mirror, holds, movedBy, carried, ifListed, presentFrame, listing, no, ok}
 use Rattle.journal.specs.Calls.{Call, change, back, list, fit}
 use Rattle.journal.specs.Claim.{after, answer}

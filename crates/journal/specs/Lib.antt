@@ -1,5 +1,6 @@
 pub mod Journal
 pub mod Calls
+pub mod SheetCalls
 pub mod Claim
 pub mod Laws
 pub mod Example

@@ -10,29 +10,29 @@ use lib.ListN.{length, take, drop, set, replicate, length-take, length-set, take
 use lib.Seq.{take-suc-set, append-snoc, drop-set-lt, drop-drop}
 
 -- size places, of which the first n hold what is collected; what is left to collect is rest
-pub record Held {A : Type 0} (size : ℕ) (blank : A) (all : List A) (places : List A) (n : ℕ) (rest : List A) : Type 0 where
-  pub long : length places ≡ size
-  pub room : n ≤ size
-  pub goes : take n places ++ rest ≡ all
-  pub blanks : drop n places ≡ replicate (size - n) blank
+pub record Collected {A : Type 0} (size : ℕ) (blank : A) (all : List A) (places : List A) (n : ℕ) (rest : List A) : Type 0 where
+  pub same-size : length places ≡ size
+  pub count-fits : n ≤ size
+  pub together : take n places ++ rest ≡ all
+  pub blank-after : drop n places ≡ replicate (size - n) blank
 
 module _ {A : Type 0} (size : ℕ) (blank : A) (all : List A) where
-  pub stored : (places : List A) (n : ℕ) (q : A) (rest : List A) → n < size → Held size blank all places n (q ∷ rest) →
-      Held size blank all (set places n q) (n + 1) rest
+  pub stored : (places : List A) (n : ℕ) (q : A) (rest : List A) → n < size → Collected size blank all places n (q ∷ rest) →
+      Collected size blank all (set places n q) (n + 1) rest
   stored places n q rest h k =
-      let l : n < length places = omega (arith, k .long) in
+      let l : n < length places = omega (arith, k .same-size) in
       let m : size - n ≡ suc (size - (n + 1)) = omega arith in
       record {
-        long = length-set places n q ∙ k .long;
-        room = omega arith;
-        goes = rw (add-one, take-suc-set places n q l, append-snoc (take n places) q rest) (k .goes);
-        blanks =
-            rw (drop-set-lt (n + 1) places n q (omega arith), ← drop-drop 1 n places, k .blanks, m);
+        same-size = length-set places n q ∙ k .same-size;
+        count-fits = omega arith;
+        together = rw (add-one, take-suc-set places n q l, append-snoc (take n places) q rest) (k .together);
+        blank-after =
+            rw (drop-set-lt (n + 1) places n q (omega arith), ← drop-drop 1 n places, k .blank-after, m);
       }
 
-  pub finished : (places : List A) (n : ℕ) → Held size blank all places n [] →
+  pub finished : (places : List A) (n : ℕ) → Collected size blank all places n [] →
       (n ≡ length all) × (places ≡ all ++ replicate (size - n) blank)
   finished places n k =
-      let e : take n places ≡ all = sym (append-nil (take n places)) ∙ k .goes in
-      let f : length (take n places) ≡ n = length-take n places ∙ min-eq-left (omega (arith, k .long, k .room)) in
-      (sym f ∙ ap length e, sym (take-append-drop n places) ∙ rw (e, k .blanks))
+      let e : take n places ≡ all = sym (append-nil (take n places)) ∙ k .together in
+      let f : length (take n places) ≡ n = length-take n places ∙ min-eq-left (omega (arith, k .same-size, k .count-fits)) in
+      (sym f ∙ ap length e, sym (take-append-drop n places) ∙ rw (e, k .blank-after))

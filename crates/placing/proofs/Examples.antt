@@ -1,14 +1,14 @@
 -- The starred examples of 01 hold: the table is computed by the definitions. Assumes nothing.
 use mathlib.Core.Path.{refl}
 use Rattle.numbers.specs.Bytes.{same}
-use Rattle.afinfo.specs.Focus.{inFocusNumber}
-use Rattle.afinfo.specs.Record.{layoutAmong, layoutOf, recordOf}
-use Rattle.fitting.specs.Fit.{axisFits, hasZeroSide, centerLiesOn, areaFits, noArea, liesOn, pointFits, sameSize}
-use Rattle.fitting.specs.Scale.{scaleOf, trimOf, scaledSide, scaledCenter, scaledArea, keptArea, scaledSize, scaledPoint}
-use Rattle.named.specs.Points.{hasTable}
-use Rattle.named.specs.Named.{samePlace, pictureIs, onCrop, uncropped, placedFrame, marked, fitsWindow, isNamed, isListed, listedFrom, hasNumber, indexOf, placedIn, windowOf, namedOutcome}
+use Rattle.reading.specs.Focus.{inFocusNumber}
+use Rattle.reading.specs.Record.{layoutAmong, layoutOf, recordOf}
+use Rattle.placing.specs.Fit.{axisFits, hasZeroSide, centerLiesOn, areaFits, noArea, liesOn, pointFits, sameSize}
+use Rattle.placing.specs.Scale.{scaleOf, trimOf, scaledSide, scaledCenter, scaledArea, keptArea, scaledSize, scaledPoint}
+use Rattle.placing.specs.Points.{tableOf}
+use Rattle.placing.specs.Named.{samePlace, pictureIs, onCrop, uncropped, placedFrame, marked, fitsWindow, isNamed, isListed, listedFrom, hasNumber, indexOf, placedIn, windowOf, namedOutcome}
 use Rattle.placing.specs.Examples.{samePoint, isOnly, agrees, holds, Starred}
 
 pub starred : Starred
-unfolding holds agrees isOnly samePoint inFocusNumber same layoutAmong layoutOf recordOf hasTable axisFits hasZeroSide centerLiesOn areaFits noArea liesOn pointFits scaleOf trimOf scaledSide scaledCenter scaledArea keptArea scaledSize scaledPoint sameSize samePlace pictureIs onCrop uncropped placedFrame marked fitsWindow isNamed isListed listedFrom hasNumber indexOf placedIn windowOf namedOutcome
+unfolding holds agrees isOnly samePoint inFocusNumber same layoutAmong layoutOf recordOf tableOf axisFits hasZeroSide centerLiesOn areaFits noArea liesOn pointFits scaleOf trimOf scaledSide scaledCenter scaledArea keptArea scaledSize scaledPoint sameSize samePlace pictureIs onCrop uncropped placedFrame marked fitsWindow isNamed isListed listedFrom hasNumber indexOf placedIn windowOf namedOutcome
 starred = refl

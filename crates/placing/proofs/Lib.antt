@@ -1,2 +1,14 @@
-pub mod Sound
 pub mod Examples
+pub mod Fitting
+pub mod Frames
+pub mod Listed
+pub mod Means
+pub mod NamedSound
+pub mod Placed
+pub mod Numbers
+pub mod Places
+pub mod RecordedFits
+pub mod Scaled
+pub mod Scaling
+pub mod Sound
+pub mod Table

@@ -3,22 +3,21 @@
 use Prim.Native.Nat.{ℕ}
 use mathlib.Core.List.{List}
 use native.Mathlib.Omega.{arith}
-use Rattle.tiff.specs.Outcome.{Outcome, refused, accepted}
-use Rattle.geometry.specs.declared.OptionalSize.{OptionalSize}
-use Rattle.afinfo.specs.declared.focus.FocusAreaMode.{FocusAreaMode}
+use Rattle.reading.specs.Outcome.{Outcome, refused, accepted, andThen}
+use Rattle.reading.specs.declared.geometry.OptionalSize.{OptionalSize}
+use Rattle.reading.specs.declared.focus.FocusAreaMode.{FocusAreaMode}
 use Rattle.reading.specs.declared.nikon.Crop.{Crop}
-use Rattle.load.specs.Load.{Focus, alone}
-use Rattle.named.specs.Named.{namedOutcome}
-use Rattle.load.specs.Sound.{Sound}
-use Rattle.tiff.specs.Block.{blockOf}
-use Rattle.reading.specs.Values.{manualFocusOf, cropHiSpeedOf, cropAreaOf, afInfo2Of}
+use Rattle.placing.specs.Load.{Focus, alone}
+use Rattle.placing.specs.Named.{namedOutcome}
+use Rattle.placing.specs.Sound.{Sound}
+use Rattle.reading.specs.Note.{valuesOf}
 use Rattle.reading.specs.declared.nikon.CropArea.{CropArea}
-use Rattle.afinfo.specs.declared.FocusRecord.{FocusRecord}
-use Rattle.recorded.specs.Recorded.{positionOf, Placement}
-use Rattle.placing.specs.Focus.{andThen, refusedToo, pointOf, recordsPosition, placedOf, focusIn, focusOf, LoadSound}
+use Rattle.reading.specs.declared.afinfo.FocusRecord.{FocusRecord}
+use Rattle.placing.specs.Recorded.{positionOf, Placement}
+use Rattle.placing.specs.Focus.{pointOf, recordsPosition, placedOf, focusOf, LoadSound}
 use Rattle.laws.proofs.Tests.{either}
-use Rattle.recorded.proofs.Fitting.{Fits, position-fits}
-use Rattle.named.proofs.Sound.{named-sound}
+use Rattle.placing.proofs.RecordedFits.{Fits, position-fits}
+use Rattle.placing.proofs.NamedSound.{named-sound}
 
 -- one point that fits is a sound load
 pub alone-sound : (m : FocusAreaMode) (q : Outcome Placement) → Fits q → Sound (andThen q (λ x. alone (x .frame) (x .point) m))
@@ -44,8 +43,7 @@ then-sound (refused n) g h = tt
 then-sound (accepted a) g h = h a
 
 pub focus-sound : LoadSound
-unfolding focusOf focusIn
+unfolding focusOf
 focus-sound s raw picture model =
-    then-sound (blockOf s) (λ o. focusIn o s raw picture model)
-    (λ o. then-sound (refusedToo 3 (manualFocusOf o s) (afInfo2Of o s)) (λ r. placedOf r (cropHiSpeedOf o s) (cropAreaOf o s raw) picture model)
-    (λ r. placed-sound r (cropHiSpeedOf o s) (cropAreaOf o s raw) picture model))
+    then-sound (valuesOf s raw) (λ v. placedOf (v .recorded) (v .crop) (v .area) picture model)
+    (λ v. placed-sound (v .recorded) (v .crop) (v .area) picture model)

@@ -5,24 +5,24 @@ use mathlib.Core.List.{List, [], _∷_, _++_}
 use mathlib.Core.Path.{_≡_}
 use lib.ListN.{replicate}
 use lib.Dec.{eqb}
-use Rattle.tiff.specs.Outcome.{Outcome, refused, accepted, numberOf}
-use Rattle.afinfo.specs.Focus.{inFocusNumber}
-use Rattle.afinfo.specs.Record.{recordOf}
+use Rattle.reading.specs.Outcome.{Outcome, refused, accepted, numberOf}
+use Rattle.reading.specs.Focus.{inFocusNumber}
+use Rattle.reading.specs.Record.{recordOf}
 use Rattle.numbers.specs.declared.io.ByteOrder.the-variants.{Big}
-use Rattle.geometry.specs.declared.Size.{Size}
-use Rattle.geometry.specs.declared.OptionalSize.{OptionalSize}
-use Rattle.geometry.specs.declared.OptionalSize.the-variants.{Missing, Given}
-use Rattle.afinfo.specs.declared.focus.InFocus.the-variants.{Unrecorded as unrecorded}
-use Rattle.afinfo.specs.declared.focus.FocusAreaMode.the-variants.{Single}
+use Rattle.reading.specs.declared.geometry.Size.{Size}
+use Rattle.reading.specs.declared.geometry.OptionalSize.{OptionalSize}
+use Rattle.reading.specs.declared.geometry.OptionalSize.the-variants.{Missing, Given}
+use Rattle.reading.specs.declared.focus.InFocus.the-variants.{Unrecorded as unrecorded}
+use Rattle.reading.specs.declared.focus.FocusAreaMode.the-variants.{Single}
 use Rattle.reading.specs.declared.nikon.Crop.{Crop}
-use Rattle.reading.specs.declared.nikon.Crop.the-variants.{Unrecorded, Recorded}
-use Rattle.afinfo.specs.declared.NamedPoints.the-variants.{Named}
-use Rattle.fitting.specs.declared.focus.FocusPoint.{FocusPoint}
-use Rattle.fitting.specs.Fit.{axisFits, by}
-use Rattle.fitting.specs.Scale.{scaleOf, scaledPoint}
-use Rattle.load.specs.Load.{Focus}
-use Rattle.named.specs.Points.{d600}
-use Rattle.named.specs.Named.{namedOutcome}
+use Rattle.reading.specs.declared.nikon.Crop.the-variants.{NoCrop, Stated}
+use Rattle.reading.specs.declared.afinfo.NamedPoints.the-variants.{Named}
+use Rattle.placing.specs.declared.focus.FocusPoint.{FocusPoint}
+use Rattle.placing.specs.Fit.{axisFits, by}
+use Rattle.placing.specs.Scale.{scaleOf, scaledPoint}
+use Rattle.placing.specs.Load.{Focus}
+use Rattle.placing.specs.Points.{d600}
+use Rattle.placing.specs.Named.{namedOutcome}
 
 pub data Example : Type 0 where
   -- scale of a value, from an old side to a new one, is the last number
@@ -47,7 +47,7 @@ pointAt n x y size = record { number = n; center = record { x = x; y = y }; size
 -- the D600's DX crop: the mode, the size of the raw data before and after it, and the origin
 abbrev dxCrop : Crop
 dxCrop =
-    Recorded
+    Stated
     (record { mode = 2; original = by 6080 4028; cropped = by 3968 2636; origin = record { x = 1040; y = 696 } })
 
 abbrev pub starredRows : List Example
@@ -60,7 +60,7 @@ starredRows =
     scaling (pointAt 0 20 20 (square 40)) (square 100) (square 1) (pointAt 0 0 0 (square 0)) ∷  -- "Centre 20, frame 100 to 1: centre 0, area dropped"
     names 27 dxCrop Missing 3163 1612 ∷  -- "Point 27 in the DX window: (3163, 1612)"
     names 38 dxCrop Missing 772 1009 ∷  -- "Point 38: (772, 1009)"
-    names 1 Unrecorded (Given (by 4512 3008)) 3005 2002 ∷  -- "Point 1 in 4512 by 3008: (3005, 2002)"
+    names 1 NoCrop (Given (by 4512 3008)) 3005 2002 ∷  -- "Point 1 in 4512 by 3008: (3005, 2002)"
     reads 29 4 ∷  -- "Version 0100 of 29 bytes: 4"
     reads 30 0 ∷  -- "30 is read"
     []

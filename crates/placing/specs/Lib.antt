@@ -1,2 +1,12 @@
+pub mod Fit
+pub mod Scale
+pub mod FittingLaws
+pub mod Load
+pub mod Sound
+pub mod Recorded
+pub mod Points
+pub mod Named
+pub mod Table
 pub mod Focus
 pub mod Examples
+pub mod Inside

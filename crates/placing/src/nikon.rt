@@ -1,26 +1,25 @@
 // One load: from a lent block, the two sizes and the model to focus points.
-use afinfo::AfInfo2;
-use afinfo::FocusRecord;
-use afinfo::NamedPoints;
-use afinfo::focus::FocusAreaMode;
-use fitting::focus::FocusPoint;
-use geometry::OptionalSize;
-use geometry::Size;
-use load::focus::FocusAnswer;
-use load::focus::FocusOrigin;
-use load::focus::FocusPoints;
-use load::focus::Refusal;
-use named::PlacedFrame;
-use named::Window;
-use numbers::io::ByteOrder;
+use crate::focus::FocusPoint;
+use crate::load::FocusAnswer;
+use crate::load::FocusOrigin;
+use crate::load::FocusPoints;
+use crate::load::Refusal;
+use crate::named::PlacedFrame;
+use crate::named::Window;
+use crate::recorded::Position;
+use reading::afinfo::FocusRecord;
+use reading::afinfo::NamedPoints;
+use reading::focus::FocusAreaMode;
+use reading::geometry::OptionalSize;
+use reading::geometry::Size;
 use reading::nikon::Crop;
 use reading::nikon::CropArea;
-use recorded::Position;
-use tiff::ifd::Block;
+use reading::note::NoteAnswer;
 ghost use mathlib.Core.Path.{_≡_};
-ghost use Rattle.named.specs.Named.{namedOutcome};
-ghost use Rattle.load.specs.Load.{laidOut, alone};
-ghost use Rattle.placing.specs.Focus.{pointOf, recordsPosition, locatedMeans, placedOf, focusIn, focusOf};
+ghost use Rattle.placing.specs.Named.{namedOutcome};
+ghost use Rattle.placing.specs.Load.{focusMeans, laidOut, alone};
+ghost use Rattle.placing.specs.Focus.{pointOf, recordsPosition, placedOf, focusOf};
+ghost use Rattle.placing.specs.Inside.{locatedMeans};
 
 // Where the points of a load are: nowhere, as it is refused; one recorded position in its frame; or the points that a
 // primary and a mask name in a window of the table's frame.
@@ -60,20 +59,20 @@ fn records_position(recorded: FocusRecord) -> bool
 {
     let frame = recorded.frame;
     let area = recorded.area;
-    if fitting::focus::has_zero_side(frame) {
+    if crate::focus::has_zero_side(frame) {
         return false;
     }
-    !fitting::focus::has_zero_side(area)
+    !crate::focus::has_zero_side(area)
 }
 
 // One recorded point, which is the primary.
 fn alone_in(frame: Size, point: FocusPoint, mode: FocusAreaMode) -> FocusPoints
-    ensures { λ r. ⌜ r ≡ laidOut (alone frame point mode) ⌝ }
+    ensures { λ r. ⌜ focusMeans r ≡ laidOut (alone frame point mode) ⌝ }
 {
-    let mut points = load::focus::no_places();
+    let mut points = crate::load::no_places();
     points[0] = point;
     FocusPoints {
-        answer: FocusAnswer::Placed,
+        answer: FocusAnswer::Accepted,
         frame,
         points,
         count: 1,
@@ -98,16 +97,16 @@ fn locate_names(
             layout_code,
             primary,
             mask,
-        } => match named::window_of(layout_code, model, crop, picture) {
+        } => match crate::named::window_of(layout_code, model, crop, picture) {
             PlacedFrame::Confirmed(window) => Located::Names {
                 window,
                 primary: primary as u32,
                 mask,
                 mode,
             },
-            PlacedFrame::Unconfirmed => Located::Refused(Refusal::Unnamed),
+            PlacedFrame::Unconfirmed => Located::Refused(Refusal::NamesUnplaced),
         },
-        NamedPoints::Unnamed => Located::Refused(Refusal::Unnamed),
+        NamedPoints::NoNames => Located::Refused(Refusal::NamesUnplaced),
     }
 }
 
@@ -127,7 +126,7 @@ fn locate_record(
         return locate_names(named, model, crop, picture, mode);
     }
     let frame = recorded.frame;
-    match recorded::in_crop(point_of(recorded), frame, crop, area, picture) {
+    match crate::recorded::in_crop(point_of(recorded), frame, crop, area, picture) {
         Position::Placed {
             frame: place,
             point,
@@ -136,36 +135,7 @@ fn locate_record(
             point,
             mode,
         },
-        Position::Unplaced => Located::Refused(Refusal::Unplaced),
-    }
-}
-
-// Where the points are of a block that can be read.
-fn locate_in(
-    block: &[u8],
-    order: ByteOrder,
-    raw: OptionalSize,
-    picture: OptionalSize,
-    model: &[u8],
-) -> Located
-    ensures { λ r. ⌜ locatedMeans r ≡ focusIn order (now (block .entry)) raw picture (now (model .entry)) ⌝ }
-{
-    match note::record_of(block, order) {
-        AfInfo2::Missing => Located::Refused(Refusal::Missing),
-        AfInfo2::Unusable => {
-            if reading::nikon::manual_focus(block, order) {
-                return Located::Refused(Refusal::Manual);
-            }
-            Located::Refused(Refusal::Unusable)
-        }
-        AfInfo2::Recorded(recorded) => {
-            if reading::nikon::manual_focus(block, order) {
-                return Located::Refused(Refusal::Manual);
-            }
-            let crop = reading::nikon::crop_hi_speed(block, order);
-            let area = reading::nikon::crop_area(block, order, raw);
-            locate_record(recorded, crop, area, picture, model)
-        }
+        Position::Unplaced => Located::Refused(Refusal::PositionUnplaced),
     }
 }
 
@@ -173,24 +143,32 @@ fn locate_in(
 fn locate(block: &[u8], raw: OptionalSize, picture: OptionalSize, model: &[u8]) -> Located
     ensures { λ r. ⌜ locatedMeans r ≡ focusOf (now (block .entry)) raw picture (now (model .entry)) ⌝ }
 {
-    match tiff::ifd::parse_block(block) {
-        Block::Readable(order) => locate_in(block, order, raw, picture, model),
-        Block::Unreadable => Located::Refused(Refusal::Unreadable),
+    match reading::note::values_of(block, raw) {
+        NoteAnswer::Values(values) => {
+            let recorded = values.recorded;
+            let crop = values.crop;
+            let area = values.area;
+            locate_record(recorded, crop, area, picture, model)
+        }
+        NoteAnswer::Unreadable => Located::Refused(Refusal::Unreadable),
+        NoteAnswer::NoRecord => Located::Refused(Refusal::NoRecord),
+        NoteAnswer::ManualFocus => Located::Refused(Refusal::ManualFocus),
+        NoteAnswer::BadRecord => Located::Refused(Refusal::BadRecord),
     }
 }
 
 // One load: the frame, the points in order, the primary, the area mode and the origin; or the first refusal that applies.
 pub fn focus(block: &[u8], raw: OptionalSize, picture: OptionalSize, model: &[u8]) -> FocusPoints
-    ensures { λ r. ⌜ r ≡ laidOut (focusOf (now (block .entry)) raw picture (now (model .entry))) ⌝ }
+    ensures { λ r. ⌜ focusMeans r ≡ laidOut (focusOf (now (block .entry)) raw picture (now (model .entry))) ⌝ }
 {
     match locate(block, raw, picture, model) {
-        Located::Refused(why) => load::focus::no_points(why),
+        Located::Refused(why) => crate::load::no_points(why),
         Located::Position { frame, point, mode } => alone_in(frame, point, mode),
         Located::Names {
             window,
             primary,
             mask,
             mode,
-        } => named::placed_in(window, primary, mask, mode),
+        } => crate::named::placed_in(window, primary, mask, mode),
     }
 }

@@ -1,14 +1,14 @@
 // Prints what one load answers for each load of standard input. A load is 512 bytes: a byte of flags (1 raw size, 2 picture
 // size), the raw and the picture size as four 32-bit numbers, the model's length in a byte, the block's length in two, the
 // model, the block, and zeros. Numbers are big-endian. No contract can say what is printed: that is held to `stdout`.
-use fitting::focus::FocusPoint;
-use geometry::OptionalSize;
-use geometry::Size;
 use libc::STDIN_FILENO;
 use libc::STDOUT_FILENO;
-use load::focus::FocusAnswer;
-use load::focus::FocusPoints;
 use numbers::io::ByteOrder;
+use placing::focus::FocusPoint;
+use placing::load::FocusAnswer;
+use placing::load::FocusPoints;
+use reading::geometry::OptionalSize;
+use reading::geometry::Size;
 ghost use mathlib.Core.Path.{_≡_};
 ghost use lib.ListN.{length};
 
@@ -31,7 +31,7 @@ fn print_point(p: FocusPoint) {
     number(b" ", center.y);
     number(b" ", size.width);
     number(b" ", size.height);
-    number(b" ", afinfo::focus::in_focus_number(in_focus));
+    number(b" ", reading::focus::in_focus_number(in_focus));
 }
 
 fn print_points(points: [FocusPoint; 39], count: usize) {
@@ -54,8 +54,8 @@ fn print_placed(f: FocusPoints) {
     number(b" ", frame.height);
     number(b" points ", (f.count % 64) as u32);
     number(b" primary ", (f.primary % 64) as u32);
-    number(b" mode ", afinfo::focus::mode_number(mode));
-    number(b" origin ", load::focus::origin_number(origin));
+    number(b" mode ", reading::focus::mode_number(mode));
+    number(b" origin ", placing::load::origin_number(origin));
     print_points(points, f.count);
 }
 
@@ -86,8 +86,8 @@ fn answer(load: &[u8]) {
     let f = placing::nikon::focus(block, raw, picture, model);
     let how = f.answer;
     match how {
-        FocusAnswer::Refused(why) => number(b"no ", load::focus::refusal_number(why)),
-        FocusAnswer::Placed => print_placed(f),
+        FocusAnswer::Refused(why) => number(b"no ", placing::load::refusal_number(why)),
+        FocusAnswer::Accepted => print_placed(f),
     }
     text(b"\n");
 }

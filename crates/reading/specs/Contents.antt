@@ -5,17 +5,17 @@ use mathlib.Core.Bool.{cond}
 use mathlib.Core.List.{List, [], _∷_, _++_}
 use lib.ListN.{length, take, drop, replicate}
 use lib.Dec.{eqb}
-use Rattle.tiff.specs.Outcome.{Outcome, refused, accepted}
-use Rattle.tiff.specs.Block.{blockOf, findOf, isKept}
+use Rattle.reading.specs.Outcome.{Outcome, refused, accepted}
+use Rattle.reading.specs.Block.{blockOf, findOf, isKept}
 use Rattle.numbers.specs.declared.io.ByteOrder.{ByteOrder}
 use Rattle.reading.specs.declared.nikon.ContentsAnswer.{ContentsAnswer}
-use Rattle.reading.specs.declared.nikon.ContentsAnswer.the-variants.{Unreadable, Listed}
+use Rattle.reading.specs.declared.nikon.ContentsAnswer.the-variants.{Unreadable, Tags}
 use Rattle.reading.specs.declared.nikon.TagList.{TagList}
 
 -- what the code's answer means in 01's numbers, 0 for an accepted call
 abbrev pub contentsNumber : ContentsAnswer → ℕ
 contentsNumber Unreadable = 1
-contentsNumber Listed = 0
+contentsNumber Tags = 0
 
 -- 0007, 001B, 0045, 00B7 (hexadecimal)
 abbrev pub fourTags : List ℕ
@@ -31,7 +31,7 @@ keptTags o s = keptAmong o s fourTags
 
 -- four places with a list of tags at their front, and zeros
 abbrev pub listed : List ℕ → TagList
-listed ts = record { answer = Listed; count = length ts; tags = ts ++ replicate (4 - length ts) 0 }
+listed ts = record { answer = Tags; count = length ts; tags = ts ++ replicate (4 - length ts) 0 }
 
 -- how often a number stands in a list
 unfoldable pub times : ℕ → List ℕ → ℕ

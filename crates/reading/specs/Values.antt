@@ -6,19 +6,19 @@ use lib.ListN.{length, drop}
 use lib.Dec.{leb, ltb, eqb}
 use Rattle.numbers.specs.Numbers.{u16Of, u32Of}
 use Rattle.numbers.specs.Bytes.{same}
-use Rattle.tiff.specs.Outcome.{Outcome, refused}
-use Rattle.afinfo.specs.Record.{recordOf}
-use Rattle.afinfo.specs.declared.FocusRecord.{FocusRecord}
-use Rattle.tiff.specs.Block.{findOf, isKept, typeOf, countOf, valueOf}
+use Rattle.reading.specs.Outcome.{Outcome, refused}
+use Rattle.reading.specs.Record.{recordOf}
+use Rattle.reading.specs.declared.afinfo.FocusRecord.{FocusRecord}
+use Rattle.reading.specs.Block.{findOf, isKept, typeOf, countOf, valueOf}
 use Rattle.numbers.specs.declared.io.ByteOrder.{ByteOrder}
-use Rattle.geometry.specs.declared.Size.{Size}
-use Rattle.geometry.specs.declared.Point.{Point}
-use Rattle.geometry.specs.declared.OptionalSize.{OptionalSize}
-use Rattle.geometry.specs.declared.OptionalSize.the-variants.{Missing, Given}
-use Rattle.tiff.specs.declared.ifd.Found.{Found}
+use Rattle.reading.specs.declared.geometry.Size.{Size}
+use Rattle.reading.specs.declared.geometry.Point.{Point}
+use Rattle.reading.specs.declared.geometry.OptionalSize.{OptionalSize}
+use Rattle.reading.specs.declared.geometry.OptionalSize.the-variants.{Missing, Given}
+use Rattle.reading.specs.declared.ifd.Found.{Found}
 use Rattle.reading.specs.declared.nikon.CropHiSpeed.{CropHiSpeed}
 use Rattle.reading.specs.declared.nikon.Crop.{Crop}
-use Rattle.reading.specs.declared.nikon.Crop.the-variants.{Unrecorded, Recorded}
+use Rattle.reading.specs.declared.nikon.Crop.the-variants.{NoCrop, Stated}
 use Rattle.reading.specs.declared.nikon.CropArea.{CropArea}
 use Rattle.reading.specs.declared.nikon.CropArea.the-variants as area
 
@@ -67,8 +67,8 @@ cropOf o v =
 unfoldable pub cropHiSpeedOf : ByteOrder → List ℕ → Crop
 cropHiSpeedOf o s =
     cond (eqb (typeOf (findOf o s 27)) 3 && eqb (countOf (findOf o s 27)) 7)
-    (Recorded (cropOf o (valueOf s (findOf o s 27))))
-    Unrecorded
+    (Stated (cropOf o (valueOf s (findOf o s 27))))
+    NoCrop
 
 -- "type 3 or 4, exactly four values"
 unfoldable pub isRectangle : ℕ → ℕ → Bool

@@ -1,16 +1,16 @@
 // What the Nikon maker note says of focus: the four values, the record, and which of their tags are there.
-use afinfo::AfInfo2;
-use geometry::OptionalSize;
-use geometry::Point;
-use geometry::Size;
+use crate::afinfo::AfInfo2;
+use crate::geometry::OptionalSize;
+use crate::geometry::Point;
+use crate::geometry::Size;
+use crate::ifd::Block;
 use numbers::io::ByteOrder;
-use tiff::ifd::Block;
 ghost use mathlib.Core.Path.{_≡_};
 ghost use Prim.Native.Nat.{_<_};
-ghost use Rattle.tiff.specs.Outcome.{numberOf};
-ghost use Rattle.tiff.specs.Block.{blockOf};
+ghost use Rattle.reading.specs.Outcome.{numberOf};
+ghost use Rattle.reading.specs.Block.{blockOf};
 ghost use Rattle.reading.specs.Values.{upToZero, trimStart, trimEnd, isManual, manualFocusOf, numberAt, cropHiSpeedOf, isRectangle, insideRaw, cropAreaOf, afInfo2Of};
-ghost use Rattle.afinfo.specs.Record.{recordMeans};
+ghost use Rattle.reading.specs.Record.{recordMeans};
 ghost use Rattle.reading.specs.Contents.{contentsNumber, keptTags, listed, contentsOf, ContentsOf};
 
 // FocusMode: text.
@@ -80,11 +80,11 @@ fn is_manual(value: &[u8]) -> bool
 pub fn manual_focus(block: &[u8], order: ByteOrder) -> bool
     ensures { λ r. ⌜ r ≡ manualFocusOf order (now (block .entry)) ⌝ }
 {
-    let found = tiff::ifd::find_entry(block, order, FOCUS_MODE);
-    if tiff::ifd::type_of(found) != tiff::types::ASCII {
+    let found = crate::ifd::find_entry(block, order, FOCUS_MODE);
+    if crate::ifd::type_of(found) != crate::types::ASCII {
         return false;
     }
-    is_manual(tiff::ifd::value_of(block, found))
+    is_manual(crate::ifd::value_of(block, found))
 }
 
 // Number `i` of a value whose numbers are 16 bits wide if `typ` is SHORT, else 32.
@@ -92,7 +92,7 @@ fn number_at(value: &[u8], order: ByteOrder, typ: u16, i: usize) -> u32
     requires { ⌜ i < 8 ⌝ }
     ensures { λ r. ⌜ r ≡ numberAt order typ (now (value .entry)) i ⌝ }
 {
-    if typ == tiff::types::SHORT {
+    if typ == crate::types::SHORT {
         return numbers::io::u16_of(numbers::io::tail(value, 2 * i), order) as u32;
     }
     numbers::io::u32_of(numbers::io::tail(value, 4 * i), order)
@@ -108,36 +108,36 @@ pub struct CropHiSpeed {
 
 // CropHiSpeed, if it records one.
 pub enum Crop {
-    Unrecorded,
-    Recorded(CropHiSpeed),
+    NoCrop,
+    Stated(CropHiSpeed),
 }
 
 // What CropHiSpeed records of the crop.
 pub fn crop_hi_speed(block: &[u8], order: ByteOrder) -> Crop
     ensures { λ r. ⌜ r ≡ cropHiSpeedOf order (now (block .entry)) ⌝ }
 {
-    let found = tiff::ifd::find_entry(block, order, CROP_HI_SPEED);
-    if tiff::ifd::type_of(found) != tiff::types::SHORT {
-        return Crop::Unrecorded;
+    let found = crate::ifd::find_entry(block, order, CROP_HI_SPEED);
+    if crate::ifd::type_of(found) != crate::types::SHORT {
+        return Crop::NoCrop;
     }
-    if tiff::ifd::count_of(found) != 7 {
-        return Crop::Unrecorded;
+    if crate::ifd::count_of(found) != 7 {
+        return Crop::NoCrop;
     }
-    let value = tiff::ifd::value_of(block, found);
-    let mode = number_at(value, order, tiff::types::SHORT, 0);
+    let value = crate::ifd::value_of(block, found);
+    let mode = number_at(value, order, crate::types::SHORT, 0);
     let original = Size {
-        width: number_at(value, order, tiff::types::SHORT, 1),
-        height: number_at(value, order, tiff::types::SHORT, 2),
+        width: number_at(value, order, crate::types::SHORT, 1),
+        height: number_at(value, order, crate::types::SHORT, 2),
     };
     let cropped = Size {
-        width: number_at(value, order, tiff::types::SHORT, 3),
-        height: number_at(value, order, tiff::types::SHORT, 4),
+        width: number_at(value, order, crate::types::SHORT, 3),
+        height: number_at(value, order, crate::types::SHORT, 4),
     };
     let origin = Point {
-        x: number_at(value, order, tiff::types::SHORT, 5),
-        y: number_at(value, order, tiff::types::SHORT, 6),
+        x: number_at(value, order, crate::types::SHORT, 5),
+        y: number_at(value, order, crate::types::SHORT, 6),
     };
-    Crop::Recorded(CropHiSpeed {
+    Crop::Stated(CropHiSpeed {
         mode,
         original,
         cropped,
@@ -178,25 +178,25 @@ fn is_rectangle(typ: u16, count: u32) -> bool
     if count != 4 {
         return false;
     }
-    if typ == tiff::types::SHORT {
+    if typ == crate::types::SHORT {
         return true;
     }
-    typ == tiff::types::LONG
+    typ == crate::types::LONG
 }
 
 // What CropArea gives in raw data of the size `raw`.
 pub fn crop_area(block: &[u8], order: ByteOrder, raw: OptionalSize) -> CropArea
     ensures { λ r. ⌜ r ≡ cropAreaOf order (now (block .entry)) raw ⌝ }
 {
-    let found = tiff::ifd::find_entry(block, order, CROP_AREA);
-    if !tiff::ifd::is_kept(found) {
+    let found = crate::ifd::find_entry(block, order, CROP_AREA);
+    if !crate::ifd::is_kept(found) {
         return CropArea::Absent;
     }
-    let typ = tiff::ifd::type_of(found);
-    if !is_rectangle(typ, tiff::ifd::count_of(found)) {
+    let typ = crate::ifd::type_of(found);
+    if !is_rectangle(typ, crate::ifd::count_of(found)) {
         return CropArea::Unusable;
     }
-    let value = tiff::ifd::value_of(block, found);
+    let value = crate::ifd::value_of(block, found);
     let at = Point {
         x: number_at(value, order, typ, 0),
         y: number_at(value, order, typ, 1),
@@ -215,17 +215,17 @@ pub fn crop_area(block: &[u8], order: ByteOrder, raw: OptionalSize) -> CropArea
 pub fn af_info2(block: &[u8], order: ByteOrder) -> AfInfo2
     ensures { λ r. ⌜ recordMeans r ≡ afInfo2Of order (now (block .entry)) ⌝ }
 {
-    let found = tiff::ifd::find_entry(block, order, AF_INFO2);
-    if tiff::ifd::type_of(found) != tiff::types::UNDEFINED {
-        return AfInfo2::Missing;
+    let found = crate::ifd::find_entry(block, order, AF_INFO2);
+    if crate::ifd::type_of(found) != crate::types::UNDEFINED {
+        return AfInfo2::NoRecord;
     }
-    afinfo::af_info2_record(tiff::ifd::value_of(block, found), order)
+    crate::afinfo::af_info2_record(crate::ifd::value_of(block, found), order)
 }
 
 // Whether contents could be read.
 pub enum ContentsAnswer {
     Unreadable,
-    Listed,
+    Tags,
 }
 
 // Which of the four tags have a kept entry: how many, and their numbers, in places of which the rest are 0.
@@ -247,14 +247,14 @@ fn kept_tags(block: &[u8], order: ByteOrder) -> TagList
     let mut i: usize = 0;
     while i < 4 {
         let tag = TAGS[i];
-        if tiff::ifd::is_kept(tiff::ifd::find_entry(block, order, tag)) {
+        if crate::ifd::is_kept(crate::ifd::find_entry(block, order, tag)) {
             tags[count] = tag;
             count += 1;
         }
         i += 1;
     }
     TagList {
-        answer: ContentsAnswer::Listed,
+        answer: ContentsAnswer::Tags,
         count,
         tags,
     }
@@ -264,7 +264,7 @@ fn kept_tags(block: &[u8], order: ByteOrder) -> TagList
 pub fn contents(block: &[u8]) -> TagList
     ensures { λ r. ⌜ (contentsNumber (r .answer) ≡ numberOf (blockOf (now (block .entry)))) × ContentsOf (blockOf (now (block .entry))) (now (block .entry)) r × (r ≡ contentsOf (now (block .entry))) ⌝ }
 {
-    match tiff::ifd::parse_block(block) {
+    match crate::ifd::parse_block(block) {
         Block::Readable(order) => kept_tags(block, order),
         Block::Unreadable => TagList {
             answer: ContentsAnswer::Unreadable,

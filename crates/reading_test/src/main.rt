@@ -1,19 +1,19 @@
-// Prints what the readers answer for each block of standard input: one block a line, in hexadecimal.
-// A line that starts with '#' is printed as it is. No contract can say what is printed: that is held to `stdout`.
-use afinfo::AfInfo2;
-use afinfo::FocusRecord;
-use afinfo::NamedPoints;
-use geometry::OptionalSize;
-use geometry::Size;
+// Prints what the readers answer for each block of standard input: one block a line, in hexadecimal. A line that starts with '#' is
+// printed as it is. One that starts with '+' is the front of two blocks with zeros behind it, one as long as a block may be and one a
+// byte longer: a line each. No contract can say what is printed: that is held to `stdout`.
 use libc::STDIN_FILENO;
 use libc::STDOUT_FILENO;
-use note::NoteRecord;
 use numbers::io::ByteOrder;
+use reading::afinfo::AfInfo2;
+use reading::afinfo::FocusRecord;
+use reading::afinfo::NamedPoints;
+use reading::geometry::OptionalSize;
+use reading::geometry::Size;
+use reading::ifd::Block;
+use reading::ifd::Found;
 use reading::nikon::ContentsAnswer;
 use reading::nikon::Crop;
 use reading::nikon::CropArea;
-use tiff::ifd::Block;
-use tiff::ifd::Found;
 ghost use Prim.Native.Nat.{_<_, _≤_, min};
 ghost use mathlib.Core.Path.{_≡_};
 ghost use lib.ListN.{length};
@@ -88,18 +88,18 @@ fn order_name(order: ByteOrder) {
 // The first kept entry of a tag: its type, its count and its value.
 fn entry(block: &[u8], order: ByteOrder, tag: u16) {
     number(b" | ", tag as u64);
-    let found = tiff::ifd::find_entry(block, order, tag);
-    if !tiff::ifd::is_kept(found) {
+    let found = reading::ifd::find_entry(block, order, tag);
+    if !reading::ifd::is_kept(found) {
         text(b" absent");
         return;
     }
-    number(b" type ", tiff::ifd::type_of(found) as u64);
+    number(b" type ", reading::ifd::type_of(found) as u64);
     if let Found::Damaged { typ: _ } = found {
         text(b" damaged");
         return;
     }
-    number(b" count ", tiff::ifd::count_of(found) as u64);
-    let value = tiff::ifd::value_of(block, found);
+    number(b" count ", reading::ifd::count_of(found) as u64);
+    let value = reading::ifd::value_of(block, found);
     number(b" bytes ", value.len() as u64);
     bytes(value);
 }
@@ -119,13 +119,13 @@ fn size(word: &[u8], width: u32, height: u32) {
 
 fn crop(block: &[u8], order: ByteOrder) {
     match reading::nikon::crop_hi_speed(block, order) {
-        Crop::Recorded(c) => {
+        Crop::Stated(c) => {
             number(b" | crop ", c.mode as u64);
             size(b" ", c.original.width, c.original.height);
             size(b" ", c.cropped.width, c.cropped.height);
             size(b" ", c.origin.x, c.origin.y);
         }
-        Crop::Unrecorded => text(b" | no crop"),
+        Crop::NoCrop => text(b" | no crop"),
     }
 }
 
@@ -160,7 +160,7 @@ fn names(named: NamedPoints) {
             number(b" ", primary as u64);
             number(b" ", mask);
         }
-        NamedPoints::Unnamed => text(b" no names"),
+        NamedPoints::NoNames => text(b" no names"),
     }
 }
 
@@ -169,27 +169,24 @@ fn focus_record(r: FocusRecord) {
     size(b" center ", r.center.x, r.center.y);
     size(b" area ", r.area.width, r.area.height);
     let in_focus = r.in_focus;
-    number(b" focus ", afinfo::focus::in_focus_number(in_focus) as u64);
+    number(b" focus ", reading::focus::in_focus_number(in_focus) as u64);
     let mode = r.area_mode;
-    number(b" mode ", afinfo::focus::mode_number(mode) as u64);
+    number(b" mode ", reading::focus::mode_number(mode) as u64);
     let named = r.named;
     names(named);
 }
 
 fn af_info2(found: AfInfo2) {
     match found {
-        AfInfo2::Recorded(r) => focus_record(r),
-        AfInfo2::Unusable => text(b" | no 4"),
-        AfInfo2::Missing => text(b" | no 2"),
+        AfInfo2::Said(r) => focus_record(r),
+        AfInfo2::BadRecord => text(b" | no 4"),
+        AfInfo2::NoRecord => text(b" | no 2"),
     }
 }
 
 // The record, asked of the block's note.
-fn record(block: &[u8]) {
-    match note::record_in(block) {
-        NoteRecord::Read(found) => af_info2(found),
-        NoteRecord::Unreadable => text(b" | no 1"),
-    }
+fn record(block: &[u8], order: ByteOrder) {
+    af_info2(reading::note::record_of(block, order));
 }
 
 fn tag(n: u16) {
@@ -201,7 +198,7 @@ fn contents(block: &[u8]) {
     let list = reading::nikon::contents(block);
     let answer = list.answer;
     match answer {
-        ContentsAnswer::Listed => text(b" | tags "),
+        ContentsAnswer::Tags => text(b" | tags "),
         ContentsAnswer::Unreadable => text(b" | no 1 "),
     }
     number(b"", list.count as u64);
@@ -221,21 +218,44 @@ fn values(block: &[u8], order: ByteOrder) {
     manual_focus(block, order);
     crop(block, order);
     crop_areas(block, order);
-    record(block);
+    record(block, order);
 }
 
 fn report(s: &[u8]) {
-    match tiff::ifd::parse_block(s) {
+    match reading::ifd::parse_block(s) {
         Block::Readable(order) => values(s, order),
         Block::Unreadable => text(b"no 1"),
     }
     contents(s);
 }
 
+// A block that is one byte longer than a block may be.
+fn long_space() -> [u8; 1048577]
+    ensures { λ r. ⌜ 1048577 ≡ length r ⌝ }
+{
+    [0; 1048577]
+}
+
+// The longest block with these bytes at its front, and the whole buffer as a block.
+fn report_in(front: &[u8], space: &mut [u8]) {
+    decode(front, space);
+    report(numbers::io::head(space, 1048576));
+    text(b"\n");
+    report(space);
+}
+
+fn report_long(front: &[u8]) {
+    let mut space = long_space();
+    report_in(front, &mut space);
+}
+
 // Answers one line.
 fn answer(line: &[u8]) {
-    if numbers::io::u8_at(line, 0) == b'#' {
+    let first = numbers::io::u8_at(line, 0);
+    if first == b'#' {
         text(line);
+    } else if first == b'+' {
+        report_long(numbers::io::tail(line, 1));
     } else {
         let mut space = io::buffer();
         let n = decode(line, &mut space);

@@ -4,7 +4,7 @@
 use Prim.Native.Nat.{ℕ, suc, _+_, _-_, _<_, _≤_, min}
 use mathlib.Core.Path.{_≡_}
 use mathlib.Core.Bool.{true, false}
-use mathlib.Core.List.{List, [], _++_}
+use mathlib.Core.List.{List, [], _++_, flatten}
 use mathlib.Core.Logic.{⊎-elim}
 use lib.ListN.{length, take, drop, length-drop, drop-of-length-le}
 use lib.Seq.{drop-drop}
@@ -15,17 +15,17 @@ use Rattle.laws.proofs.Tests.{by-order}
 use Rattle.text.proofs.Laws as text
 use Rattle.sheet.specs.declared.Sheet.{Sheet}
 use Rattle.sheet.specs.Sheet.{freshSheet}
-use Rattle.session.specs.Lines.{spelled, sheetText, sheetNext}
-use Rattle.session.specs.Claim.{sheetTexts}
+use Rattle.session.specs.Lines.{spelled}
+use Rattle.session.specs.Answering.{sheetText, sheetNext, sheetTexts}
 use Rattle.session.proofs.Claim.{lines-claim}
 use Rattle.script.specs.declared.Answered.the-variants.{Short, Written}
-use Rattle.script.specs.Script.{linesFrom, linesOf, joined, scriptText, hasRoom, answeredWith, bufferWith}
-use Rattle.script.specs.Parts.{feedAt}
+use Rattle.script.specs.Script.{linesFrom, linesOf, scriptText, roomFor, answeredWith, bufferWith}
+use Rattle.script.specs.Inside.{feedAt}
 use Rattle.script.proofs.Laws.{lines-first, feed-within, drop-min}
 
 -- what is left to put from a place of the script on
 abbrev pub restText : Sheet → List ℕ → List ℕ
-restText sheet s = joined (sheetTexts sheet (linesFrom [] s))
+restText sheet s = flatten (sheetTexts sheet (linesFrom [] s))
 
 -- ---- a turn of `answer_all`: a line that starts at `a` and ends at `e`
 module _ (s : List ℕ) (a : ℕ) (h : a < length s) (e : ℕ) (p : e ≡ a + feedAt (drop a s)) where
@@ -38,7 +38,7 @@ module _ (s : List ℕ) (a : ℕ) (h : a < length s) (e : ℕ) (p : e ≡ a + fe
   first-text : (sheet : Sheet)
       → restText sheet (drop a s)
       ≡ sheetText sheet (spelled line) ++ restText (sheetNext sheet (spelled line)) (drop (min (e + 1) (length s)) s)
-  unfolding joined sheetTexts
+  unfolding flatten sheetTexts
   first-text sheet =
       let k : e - a ≡ feedAt (drop a s) = omega arith in
       let m : e + 1 ≡ a + suc (feedAt (drop a s)) = omega arith in
@@ -65,11 +65,11 @@ all-start s o sheet e h = rw (e, lines-claim (linesOf s)) (text.going-start o 0 
 
 pub all-done : {o₀ w o : List ℕ} {at : ℕ} (s : List ℕ) (sheet : Sheet) (a : ℕ) → length s ≤ a
     → text.Going o₀ 0 w o at (restText sheet (drop a s)) → Put o₀ 0 w o at
-unfolding joined sheetTexts linesFrom
+unfolding flatten sheetTexts linesFrom
 all-done s sheet a h g = text.going-end (rw (drop-of-length-le s h) at g)
 
 -- ---- `answer`: n is what the measuring pass, over other bytes, counts of the text t
-without-room : (t o : List ℕ) → hasRoom t o ≡ false → (Short ≡ answeredWith t o) × (o ≡ bufferWith t o)
+without-room : (t o : List ℕ) → roomFor t o ≡ false → (Short ≡ answeredWith t o) × (o ≡ bufferWith t o)
 unfolding answeredWith bufferWith
 without-room t o e = (rw e, rw e)
 
@@ -96,6 +96,6 @@ module _ (t o z z₁ : List ℕ) (n : ℕ) (p : Put z 0 t z₁ n) where
     pub answer-fits : n ≤ length o → {o₁ : List ℕ} {m : ℕ} → Put o 0 t o₁ m → (Written n ≡ answeredWith t o) × (o₁ ≡ bufferWith t o)
     unfolding answeredWith bufferWith
     answer-fits h q =
-        let room : hasRoom t o ≡ true =
+        let room : roomFor t o ≡ true =
         rw (lt-ltb (length t) 18446744073709551615 counted) (le-leb (length t) (length o) (omega (arith, exact, h))) in
         (rw (room, exact), rw room (q .laid))

@@ -4,7 +4,7 @@
 use Prim.Native.Nat.{ℕ, suc, _+_, _<_, _≤_, min}
 use mathlib.Core.Path.{_≡_, refl, sym, ap, _∙_}
 use mathlib.Core.Bool.{true, false}
-use mathlib.Core.List.{List, [], _∷_, _++_, append-nil, append-assoc}
+use mathlib.Core.List.{List, [], _∷_, _++_, append-nil, append-assoc, flatten}
 use mathlib.Core.Logic.{⊎-elim, _⊎_, inl, inr}
 use lib.Dec.{eqb}
 use lib.ListN.{length, take, drop, getD, length-append, drop-of-length-le}
@@ -13,8 +13,8 @@ use native.Mathlib.Omega.{arith}
 use native.Mathlib.Numerals.{add-one}
 use borrow.Author.Tests.{eq-eqb, ne-eqb, eqb-true, eqb-false}
 use Rattle.laws.proofs.Tests.{by-bool, by-cond, by-order}
-use Rattle.script.specs.Script.{linesFrom, linesOf, joined}
-use Rattle.script.specs.Parts.{feedAt}
+use Rattle.script.specs.Script.{linesFrom, linesOf}
+use Rattle.script.specs.Inside.{feedAt}
 use Rattle.script.specs.Laws.{NoFeed, NoFeeds, fed, EmptyScript, FedLines, LastUnfed, LinesUnfed, LinesAreScript}
 
 -- a script that is not empty starts with a line
@@ -79,7 +79,7 @@ lines-last l (c ∷ line) h g =
 
 -- lines with their feeds, before any script
 pub lines-before : (lines : List (List ℕ)) (s : List ℕ) → NoFeeds lines → linesOf (fed lines ++ s) ≡ lines ++ linesOf s
-unfolding fed joined NoFeeds
+unfolding fed flatten NoFeeds
 lines-before [] s h = refl
 lines-before (l ∷ ls) s h =
     rw (append-assoc (l ++ (10 ∷ [])) (fed ls) s, append-assoc l (10 ∷ []) (fed ls ++ s))
@@ -114,7 +114,7 @@ lines-unfed script = unfed-from script [] tt
 
 -- behind `l`, the lines with a feed after each are what was there, but for a missing last feed
 fed-from : (s l : List ℕ) → (fed (linesFrom l s) ≡ l ++ s) ⊎ (fed (linesFrom l s) ≡ (l ++ s) ++ (10 ∷ []))
-unfolding linesFrom fed joined NoFeed
+unfolding linesFrom fed flatten NoFeed
 fed-from [] [] = inl refl
 fed-from [] (c ∷ l) = inr (ap fed (lines-last (c ∷ l) [] tt (omega arith)) ∙ append-nil (((c ∷ l) ++ []) ++ (10 ∷ [])))
 fed-from (c ∷ s) l =

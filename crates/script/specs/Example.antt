@@ -1,9 +1,9 @@
 -- 01's whole case, byte for byte: the four lines of the script, and the five that are printed. proofs/Example.antt computes that the one
 -- is answered by the other.
 use Prim.Native.Nat.{ℕ}
-use mathlib.Core.List.{List, [], _∷_}
+use mathlib.Core.List.{List, [], _∷_, flatten}
 use mathlib.Core.Path.{_≡_}
-use Rattle.script.specs.Script.{joined, scriptText}
+use Rattle.script.specs.Script.{scriptText}
 
 -- "0100000000000000000000000000000000000A4E .."
 abbrev loadLine : List ℕ
@@ -35,11 +35,11 @@ listLine =
     48 ∷ 54 ∷ 70 ∷ 65 ∷ 10 ∷ []
 
 abbrev pub wholeScript : List ℕ
-wholeScript = joined (loadLine ∷ turnLine ∷ cutLine ∷ listLine ∷ [])
+wholeScript = flatten (loadLine ∷ turnLine ∷ cutLine ∷ listLine ∷ [])
 
 -- three times "ok", then "frame 400 400 points 1 primary 0 mode 1 origin 2" and "1 109 108 164 164 0"
-abbrev ok : List ℕ
-ok = 111 ∷ 107 ∷ 10 ∷ []
+abbrev okLine : List ℕ
+okLine = 111 ∷ 107 ∷ 10 ∷ []
 
 abbrev headLine : List ℕ
 headLine =
@@ -52,7 +52,7 @@ pointLine =
     49 ∷ 32 ∷ 49 ∷ 48 ∷ 57 ∷ 32 ∷ 49 ∷ 48 ∷ 56 ∷ 32 ∷ 49 ∷ 54 ∷ 52 ∷ 32 ∷ 49 ∷ 54 ∷ 52 ∷ 32 ∷ 48 ∷ 10 ∷ []
 
 abbrev pub wholeText : List ℕ
-wholeText = joined (ok ∷ ok ∷ ok ∷ headLine ∷ pointLine ∷ [])
+wholeText = flatten (okLine ∷ okLine ∷ okLine ∷ headLine ∷ pointLine ∷ [])
 
-abbrev pub WholeCase : Type 0
-WholeCase = scriptText wholeScript ≡ wholeText
+abbrev pub WholeCaseText : Type 0
+WholeCaseText = scriptText wholeScript ≡ wholeText

@@ -2,11 +2,11 @@
 -- last feed is no line; and of any script: no line has a feed in it, and the lines with a feed after each are the script, but for a
 -- missing last feed. proofs/Laws.antt proves each.
 use Prim.Native.Nat.{ℕ, _<_}
-use mathlib.Core.List.{List, [], _∷_, _++_, map}
+use mathlib.Core.List.{List, [], _∷_, _++_, map, flatten}
 use mathlib.Core.Logic.{_⊎_}
 use mathlib.Core.Path.{_≡_}
 use lib.ListN.{length}
-use Rattle.script.specs.Script.{linesOf, joined}
+use Rattle.script.specs.Script.{linesOf}
 
 -- no character of a line is a line feed, and so of every line
 unfoldable pub NoFeed : List ℕ → Type 0
@@ -19,7 +19,7 @@ NoFeeds (line ∷ lines) = NoFeed line × NoFeeds lines
 
 -- the script of lines, a feed after each
 unfoldable pub fed : List (List ℕ) → List ℕ
-fed lines = joined (map (λ line. line ++ (10 ∷ [])) lines)
+fed lines = flatten (map (λ line. line ++ (10 ∷ [])) lines)
 
 abbrev pub EmptyScript : Type 0
 EmptyScript = linesOf [] ≡ []

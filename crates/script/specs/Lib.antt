@@ -1,4 +1,4 @@
 pub mod Script
-pub mod Parts
+pub mod Inside
 pub mod Laws
 pub mod Example

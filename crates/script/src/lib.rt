@@ -6,9 +6,9 @@ ghost use Prim.Native.Nat.{_+_, _≤_, min};
 ghost use lib.ListN.{length, drop};
 ghost use Rattle.text.specs.Put.{Put};
 ghost use Rattle.script.specs.Script.{scriptText, answeredWith, bufferWith};
-ghost use Rattle.script.specs.Parts.{feedAt};
+ghost use Rattle.script.specs.Inside.{feedAt};
 
-// No room for the text, or how long it is.
+// How a whole script is answered: there is no room for the text, or it is written and is so long.
 pub enum Answered {
     Short,
     Written(usize),

@@ -8,20 +8,21 @@ use lib.ListN.{length, take, drop}
 use lib.Seq.{sets, sets-eq, length-sets, take-at, take-all, length-take-le}
 use native.Mathlib.Omega.{arith}
 use Rattle.laws.proofs.Tests.{by-bool, by-order}
-use Rattle.hex.specs.Hex.{wellFormed, bytesOf, decodedOf, bufferOf}
+use Rattle.reading.specs.Outcome.{Outcome, refused, accepted}
+use Rattle.hex.specs.Hex.{wellFormed, bytesOf, decodedOf, decodedMeans, bufferOf}
 use Rattle.hex.specs.declared.Decoded.{Decoded}
 use Rattle.hex.specs.declared.Decoded.the-variants.{Malformed, Bytes}
 use Rattle.hex.proofs.Laws.{bytes-long, well-over, well-short}
-use Rattle.session.specs.Lines.{spelled, spelledIn, malformed}
+use Rattle.session.specs.Lines.{spelled, spelledIn}
 
 -- a line that decodes to d, its bytes laid over z
-module _ (line z z₁ : List ℕ) (d : Decoded) (ed : d ≡ decodedOf line) (ez : z₁ ≡ bufferOf line z) (lz : 2048 ≡ length z) where
-  pub line-bad : d ≡ Malformed → spelled line ≡ malformed
+module _ (line z z₁ : List ℕ) (d : Decoded) (ed : decodedMeans d ≡ decodedOf line) (ez : z₁ ≡ bufferOf line z) (lz : 2048 ≡ length z) where
+  pub line-bad : d ≡ Malformed → spelled line ≡ refused 14
   unfolding decodedOf spelled
   line-bad m =
       ⊎-elim
       (λ (e : wellFormed line ≡ true).
-      let k : Malformed ≡ Bytes (length line / 2) = sym m ∙ ed ∙ rw e in
+      let k : _≡_ {A = Outcome ℕ} (refused 14) (accepted (length line / 2)) = ap decodedMeans (sym m) ∙ ed ∙ rw e in
       let y : _≡_ {A = ℕ} 0 1 = cc in
       absurd (omega arith))
       (λ (e : wellFormed line ≡ false). rw e)
@@ -34,14 +35,14 @@ module _ (line z z₁ : List ℕ) (d : Decoded) (ed : d ≡ decodedOf line) (ez 
         ⊎-elim
         (λ (e : wellFormed line ≡ true). e)
         (λ (e : wellFormed line ≡ false).
-        let k : Bytes n ≡ Malformed = sym m ∙ ed ∙ rw e in
+        let k : _≡_ {A = Outcome ℕ} (accepted n) (refused 14) = ap decodedMeans (sym m) ∙ ed ∙ rw e in
         let y : _≡_ {A = ℕ} 0 1 = cc in
         absurd (omega arith))
         (by-bool (wellFormed line))
 
     half : n ≡ length line / 2
     unfolding decodedOf
-    half = let k : Bytes n ≡ Bytes (length line / 2) = sym m ∙ ed ∙ rw well in cc
+    half = let k : _≡_ {A = Outcome ℕ} (accepted n) (accepted (length line / 2)) = ap decodedMeans (sym m) ∙ ed ∙ rw well in cc
 
     laid : z₁ ≡ sets z 0 (bytesOf line)
     unfolding bufferOf
@@ -64,7 +65,7 @@ module _ (line z z₁ : List ℕ) (d : Decoded) (ed : d ≡ decodedOf line) (ez 
     line-good = rw (well, line-bytes)
 
 -- an overlong line is malformed
-pub overlong : (line : List ℕ) → 4096 < length line → spelled line ≡ malformed
+pub overlong : (line : List ℕ) → 4096 < length line → spelled line ≡ refused 14
 unfolding spelled
 overlong line h = rw (well-over line h)
 

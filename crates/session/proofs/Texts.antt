@@ -12,36 +12,40 @@ use Rattle.answers.specs.Answers.{okText, noText, tagsText, headText, pointsTex
 use Rattle.text.specs.Put.{Put, Puts}
 use Rattle.text.proofs.Laws.{_▹_, at-most}
 use Rattle.laws.proofs.Tests.{by-cond}
-use Rattle.tiff.specs.Outcome.{Outcome, refused, accepted}
-use Rattle.tiff.specs.Block.{blockOf, findOf, isKept}
-use Rattle.afinfo.specs.Focus.{modeNumber}
+use Rattle.reading.specs.Outcome.{Outcome, refused, accepted}
+use Rattle.reading.specs.Block.{blockOf, findOf, isKept}
+use Rattle.reading.specs.Focus.{modeNumber}
 use Rattle.reading.specs.Contents.{contentsOf, contentsIn, fourTags, keptAmong, keptTags}
 use Rattle.numbers.specs.declared.io.ByteOrder.{ByteOrder}
-use Rattle.geometry.specs.declared.Size.{Size}
-use Rattle.geometry.specs.declared.OptionalSize.{OptionalSize}
+use Rattle.reading.specs.declared.geometry.Size.{Size}
+use Rattle.reading.specs.declared.geometry.OptionalSize.{OptionalSize}
 use Rattle.reading.specs.declared.nikon.TagList.{TagList}
 use Rattle.reading.specs.declared.nikon.ContentsAnswer.the-variants as contents-answers
-use Rattle.fitting.specs.Fit.{hasZeroSide}
-use Rattle.load.specs.Load.{originNumber, loadNumber}
+use Rattle.placing.specs.Fit.{hasZeroSide}
+use Rattle.placing.specs.Load.{originNumber, loadNumber}
 use Rattle.placing.specs.Focus.{focusOf}
 use Rattle.calls.specs.declared.Call.{Call as Parsed}
-use Rattle.calls.specs.Format.{callOf}
+use Rattle.calls.specs.Format.{callOf, callMeans}
 use Rattle.sheet.specs.declared.Sheet.{Sheet}
 use Rattle.sheet.specs.declared.Edited.{Edited}
 use Rattle.sheet.specs.declared.Loaded.{Loaded}
-use Rattle.listing.specs.declared.Listing.{Listing}
-use Rattle.listing.specs.declared.ListAnswer.{ListAnswer}
-use Rattle.listing.specs.declared.ListAnswer.the-variants.{Short, Listed}
-use Rattle.sheet.specs.Sheet.{usable, loadSheet, presentFrame}
-use Rattle.edits.specs.Answer.{editNumber}
-use Rattle.listing.specs.Listing.{listNumber, headNumbers}
-use Rattle.sheet.specs.Listing.{listed, listCount, listIndex, isShort, headIn, listAnswer, listBuffer, fitAnswer, fitBuffer}
+use Rattle.sheet.specs.declared.listing.Listing.{Listing}
+use Rattle.sheet.specs.declared.listing.ListAnswer.{ListAnswer}
+use Rattle.sheet.specs.declared.listing.ListAnswer.the-variants.{Listed}
+use Rattle.sheet.specs.Sheet.{editedMeans, loadedMeans, usable, loadSheet, presentFrame}
+use Rattle.sheet.specs.Answer.{editNumber}
+use Rattle.sheet.specs.Listing.{listMeans, headNumbers}
+use Rattle.sheet.specs.Lists.{listed, listCount, listIndex, isShort, headIn, listOutcome, listBuffer, fitOutcome, fitBuffer}
 use Rattle.sheet.proofs.Listed.{listing-length}
 use Rattle.sheet.proofs.Usable.{usable-told}
 use Rattle.journal.specs.Journal.{Answer}
-use Rattle.journal.specs.Calls.{Call, load, list, fit, numbered, given, afterEdit, sheetStep}
+use Rattle.journal.specs.Calls.{Call, load, list, fit}
+use Rattle.journal.specs.SheetCalls.{numbered, afterEdit, sheetStep}
 use Rattle.session.specs.declared.Stepped.{Stepped}
-use Rattle.session.specs.Lines.{Spelled, contents, asks, spelledBy, spelledIn, lentBuffer, givenText, outcomeText, answerText, tagListText, mostText, fewPoints, Answers}
+use Rattle.session.specs.Lines.{Spelled, contents, asks, spelledBy, spelledIn, lentBuffer}
+use Rattle.session.specs.Texts.{givenText, outcomeText, answerText, tagListText}
+use Rattle.session.specs.Answering.{mostText, Answers}
+use Rattle.session.specs.Inside.{fewPoints}
 
 module _ {o o₁ : List ℕ} {a a₁ : ℕ} where
   -- ---- a number
@@ -53,13 +57,12 @@ module _ {o o₁ : List ℕ} {a a₁ : ℕ} where
   outcome-no n e p = rw (ne-eqb n 0 e) p
 
   -- ---- a listing
-  pub list-no : (x y : ListAnswer) (ws : List ℕ) (n : ℕ) → x ≡ y → listNumber y ≡ n → (n ≡ 0 → ⊥) → Puts o a (noText n) 14 o₁ a₁
-      → Puts o a (outcomeText (numbered (listNumber x) (given x)) ws) mostText o₁ a₁
-  list-no x y ws n e f z p = rw (e, f, ne-eqb n 0 z) (at-most p (omega arith))
+  pub list-no : (x y : ListAnswer) (ws : List ℕ) (n : ℕ) → x ≡ y → listMeans y ≡ refused n → Puts o a (noText n) 14 o₁ a₁
+      → Puts o a (outcomeText (listMeans x) ws) mostText o₁ a₁
+  list-no x y ws n e f p = rw (e, f) (at-most p (omega arith))
 
   pub list-yes : (x : ListAnswer) (ws : List ℕ) (l : Listing) → x ≡ Listed l → Puts o a (givenText (headNumbers l) ws) mostText o₁ a₁
-      → Puts o a (outcomeText (numbered (listNumber x) (given x)) ws) mostText o₁ a₁
-  unfolding listNumber
+      → Puts o a (outcomeText (listMeans x) ws) mostText o₁ a₁
   list-yes x ws l e p = rw e p
 
   pub listing-text : {o₂ : List ℕ} {a₂ : ℕ} (l : Listing) (ws hs : List ℕ) → hs ≡ headNumbers l → l .count ≤ 39 → Puts o a (headText hs) 99 o₁ a₁
@@ -72,14 +75,14 @@ module _ {o o₁ : List ℕ} {a a₁ : ℕ} where
   unfolding tagListText
   contents-no r e p = rw e (at-most p (omega arith))
 
-  pub contents-yes : (r : TagList) → r .answer ≡ contents-answers.Listed → r .count ≤ 4 → Puts o a (tagsText (min (r .count) 4) (r .tags)) 60 o₁ a₁
+  pub contents-yes : (r : TagList) → r .answer ≡ contents-answers.Tags → r .count ≤ 4 → Puts o a (tagsText (min (r .count) 4) (r .tags)) 60 o₁ a₁
       → Puts o a (tagListText r) mostText o₁ a₁
   unfolding tagListText
   contents-yes r e h p = rw e (at-most (rw (min-eq-left h) at p) (omega arith))
 
   -- ---- cut, turn, mirror and back
   pub edit-text : (e : Edited) (n : ℕ) → n ≡ editNumber (e .answer) → Puts o a (outcomeText (numbered n []) []) 14 o₁ a₁
-      → Puts o a (answerText (afterEdit e .0)) mostText o₁ a₁
+      → Puts o a (answerText (afterEdit (editedMeans e) .0)) mostText o₁ a₁
   edit-text e n f p = at-most (rw f at p) (omega arith)
 
 -- ---- the numbers of a head
@@ -89,24 +92,25 @@ unfolding headNumbers
 head-is l m n e f = rw (e, f)
 
 -- ---- few points, few tags
-few-listed : (s : Sheet) (f : Size) (m : ℕ) → usable s ≡ true → fewPoints (cond (isShort s m) Short (Listed (headIn f s)))
-unfolding headIn listCount listIndex listed
+few-listed : (s : Sheet) (f : Size) (m : ℕ) → usable s ≡ true → fewPoints (cond (isShort s m) (refused 13) (accepted (headNumbers (headIn f s))))
+unfolding headNumbers headIn listCount listIndex listed
 few-listed s f m h =
     let c = usable-told s h in
     by-cond fewPoints (isShort s m) (λ e. tt)
     (λ e. (omega (arith, c .points, listing-length s (s .count)), omega (arith, c .points, c .primary, listing-length s (s .primary))))
 
-pub few-list : (s : Sheet) (m : ℕ) (x : ListAnswer) → x ≡ listAnswer s m → fewPoints x
-unfolding listAnswer
+pub few-list : (s : Sheet) (m : ℕ) (x : ListAnswer) → listMeans x ≡ listOutcome s m → fewPoints (listMeans x)
+unfolding listOutcome
 few-list s m x e = rw e (by-cond fewPoints (usable s) (few-listed s (presentFrame s) m) (λ h. tt))
 
-pub few-fit : (s : Sheet) (box : Size) (m : ℕ) (x : ListAnswer) → x ≡ fitAnswer s box m → fewPoints x
-unfolding fitAnswer
+pub few-fit : (s : Sheet) (box : Size) (m : ℕ) (x : ListAnswer) → listMeans x ≡ fitOutcome s box m → fewPoints (listMeans x)
+unfolding fitOutcome
 few-fit s box m x e =
     rw e
     (by-cond fewPoints (usable s) (λ h. by-cond fewPoints (hasZeroSide box) (λ z. tt) (λ z. few-listed s box m h)) (λ h. tt))
 
-pub few-of-listed : (x : ListAnswer) (l : Listing) → x ≡ Listed l → fewPoints x → (l .count ≤ 39) × (l .index ≤ 39)
+pub few-of-listed : (x : ListAnswer) (l : Listing) → x ≡ Listed l → fewPoints (listMeans x) → (l .count ≤ 39) × (l .index ≤ 39)
+unfolding headNumbers
 few-of-listed x l e h = rw e at h
 
 kept-few : (o : ByteOrder) (s ts : List ℕ) → length (keptAmong o s ts) ≤ length ts
@@ -127,38 +131,39 @@ contents-few s r e = rw e (few-tags (blockOf s) s)
 -- ---- what answering leaves
 module _ {o o₁ : List ℕ} {a a₁ : ℕ} (s : Sheet) where
   pub answered-contents : (block : List ℕ) (r : TagList) → r ≡ contentsOf block → Puts o a (tagListText r) mostText o₁ a₁
-      → Answers s (contents block) o a o₁ (record { sheet = s; at = a₁ })
+      → Answers s (accepted (contents block)) o a o₁ (record { sheet = s; at = a₁ })
   answered-contents block r e p = let q = rw e at p in record { left = refl; put = q .0; short = q .1 }
 
-  pub answered-list : (x : ListAnswer) (z ws : List ℕ) → z ≡ lentBuffer → x ≡ listAnswer s (length z) → ws ≡ listBuffer s z
-      → Puts o a (outcomeText (numbered (listNumber x) (given x)) ws) mostText o₁ a₁
-      → Answers s (asks (list lentBuffer)) o a o₁ (record { sheet = s; at = a₁ })
+  pub answered-list : (x : ListAnswer) (z ws : List ℕ) → z ≡ lentBuffer → listMeans x ≡ listOutcome s (length z) → ws ≡ listBuffer s z
+      → Puts o a (outcomeText (listMeans x) ws) mostText o₁ a₁
+      → Answers s (accepted (asks (list lentBuffer))) o a o₁ (record { sheet = s; at = a₁ })
   unfolding sheetStep
   answered-list x z ws ez ex ew p = let q = rw (ex, ew, ez) at p in record { left = refl; put = q .0; short = q .1 }
 
-  pub answered-fit : (box : Size) (x : ListAnswer) (z ws : List ℕ) → z ≡ lentBuffer → x ≡ fitAnswer s box (length z) → ws ≡ fitBuffer s box z
-      → Puts o a (outcomeText (numbered (listNumber x) (given x)) ws) mostText o₁ a₁
-      → Answers s (asks (fit box lentBuffer)) o a o₁ (record { sheet = s; at = a₁ })
+  pub answered-fit : (box : Size) (x : ListAnswer) (z ws : List ℕ) → z ≡ lentBuffer → listMeans x ≡ fitOutcome s box (length z) → ws ≡ fitBuffer s box z
+      → Puts o a (outcomeText (listMeans x) ws) mostText o₁ a₁
+      → Answers s (accepted (asks (fit box lentBuffer))) o a o₁ (record { sheet = s; at = a₁ })
   unfolding sheetStep
   answered-fit box x z ws ez ex ew p = let q = rw (ex, ew, ez) at p in record { left = refl; put = q .0; short = q .1 }
 
   pub answered-load : (r : Loaded) (block model bl md : List ℕ) (raw picture : OptionalSize) (n : ℕ) → bl ≡ block → md ≡ model
-      → r ≡ loadSheet s (focusOf bl raw picture md) → n ≡ loadNumber (r .answer) → Puts o a (outcomeText (numbered n []) []) 14 o₁ a₁
-      → Answers s (asks (load block raw picture model)) o a o₁ (record { sheet = r .sheet; at = a₁ })
+      → loadedMeans r ≡ loadSheet s (focusOf bl raw picture md) → n ≡ loadNumber (r .answer) → Puts o a (outcomeText (numbered n []) []) 14 o₁ a₁
+      → Answers s (accepted (asks (load block raw picture model))) o a o₁ (record { sheet = r .sheet; at = a₁ })
   unfolding sheetStep
   answered-load r block model bl md raw picture n eb em er en p =
-      let e : r ≡ loadSheet s (focusOf block raw picture model) = er ∙ rw (eb, em) in
-      let q = rw (en ∙ ap (λ (x : Loaded). loadNumber (x .answer)) e) at p in
-      record { left = ap (λ (x : Loaded). x .sheet) e; put = q .0; short = omega (arith, q .1) }
+      let e : loadedMeans r ≡ loadSheet s (focusOf block raw picture model) = er ∙ rw (eb, em) in
+      let q = rw (en ∙ ap (λ (x : ℕ × Sheet). x .0) e) at p in
+      record { left = ap (λ (x : ℕ × Sheet). x .1) e; put = q .0; short = omega (arith, q .1) }
 
 module _ {o o₁ : List ℕ} {a : ℕ} (s : Sheet) {r : Stepped} where
-  pub answered-edit : (c : Call) (e : Edited) → afterEdit e ≡ sheetStep s c
-      → (r .sheet ≡ e .sheet) × Puts o a (answerText (afterEdit e .0)) mostText o₁ (r .at)
-      → Answers s (asks c) o a o₁ r
+  pub answered-edit : (c : Call) (e : Edited) → afterEdit (editedMeans e) ≡ sheetStep s c
+      → (r .sheet ≡ e .sheet) × Puts o a (answerText (afterEdit (editedMeans e) .0)) mostText o₁ (r .at)
+      → Answers s (accepted (asks c)) o a o₁ r
   answered-edit c e f p =
       record { left = p .0 ∙ ap (λ (x : Answer × Sheet). x .1) f; put = rw (← f) (p .1 .0); short = rw (← f) (p .1 .1) }
 
-  pub by-call : (b : List ℕ) (k : Parsed) (x : Spelled) → k ≡ callOf b → spelledBy b k ≡ x → Answers s x o a o₁ r
+  -- a line's bytes that read as a call of the code, k
+  pub by-call : (b : List ℕ) (m k : Parsed) → m ≡ k → callMeans m ≡ callOf b → Answers s (spelledBy b (callMeans k)) o a o₁ r
       → Answers s (spelledIn b) o a o₁ r
   unfolding spelledIn
-  by-call b k x e f p = rw (← e, f) p
+  by-call b m k f e p = rw (← e, f) p

@@ -1,23 +1,29 @@
 // Answers a line: the call that it spells is made of the sheet, and its answer is put as text into a lent buffer.
 use calls::Call;
-use geometry::OptionalSize;
-use geometry::Size;
 use hex::Decoded;
-use listing::ListAnswer;
-use listing::Listing;
+use reading::geometry::OptionalSize;
+use reading::geometry::Size;
 use reading::nikon::ContentsAnswer;
 use sheet::Edited;
 use sheet::Sheet;
+use sheet::listing::ListAnswer;
+use sheet::listing::Listing;
 ghost use mathlib.Core.Path.{_≡_};
 ghost use mathlib.Core.List.{[]};
 ghost use Prim.Native.Nat.{_≤_};
 ghost use lib.ListN.{length};
 ghost use Rattle.text.specs.Put.{Puts};
-ghost use Rattle.listing.specs.Listing.{listNumber, headNumbers};
-ghost use Rattle.journal.specs.Calls.{load, list, fit, back, numbered, given, afterEdit};
+ghost use Rattle.reading.specs.Outcome.{refused, accepted};
+ghost use Rattle.sheet.specs.Listing.{listMeans, headNumbers};
+ghost use Rattle.sheet.specs.Sheet.{editedMeans};
+ghost use Rattle.journal.specs.Calls.{load, list, fit, back};
+ghost use Rattle.journal.specs.SheetCalls.{numbered, afterEdit};
 ghost use Rattle.journal.specs.Journal.{cut};
 ghost use Rattle.calls.specs.Format.{modelPart, blockPart};
-ghost use Rattle.session.specs.Lines.{malformed, spelled, spelledIn, contents, asks, lentBuffer, givenText, outcomeText, answerText, mostText, Answers, fewPoints};
+ghost use Rattle.session.specs.Lines.{spelled, spelledIn, contents, asks, lentBuffer};
+ghost use Rattle.session.specs.Texts.{givenText, outcomeText, answerText};
+ghost use Rattle.session.specs.Answering.{mostText, Answers};
+ghost use Rattle.session.specs.Inside.{fewPoints};
 
 // A sheet after a line, and the place after its answer.
 pub struct Stepped {
@@ -48,8 +54,8 @@ fn head_numbers(l: Listing) -> [u32; 6]
         frame.height,
         l.count as u32,
         l.index as u32,
-        afinfo::focus::mode_number(mode),
-        load::focus::origin_number(origin),
+        reading::focus::mode_number(mode),
+        placing::load::origin_number(origin),
     ]
 }
 
@@ -65,8 +71,8 @@ fn put_listing(out: &mut [u8], at: usize, l: Listing, words: &[u32]) -> usize
 
 // The lines of what list or fit answers.
 fn put_list(out: &mut [u8], at: usize, answer: ListAnswer, words: &[u32]) -> usize
-    requires { ⌜ fewPoints answer ⌝ }
-    ensures { λ r. ⌜ Puts (now (out .entry)) at (outcomeText (numbered (listNumber answer) (given answer)) (now (words .entry))) mostText (now (out .exit)) r ⌝ }
+    requires { ⌜ fewPoints (listMeans answer) ⌝ }
+    ensures { λ r. ⌜ Puts (now (out .entry)) at (outcomeText (listMeans answer) (now (words .entry))) mostText (now (out .exit)) r ⌝ }
 {
     match answer {
         ListAnswer::Empty => answers::put_no(out, at, 7),
@@ -85,7 +91,7 @@ fn lent_buffer() -> [u32; 234]
 
 // Answers list.
 fn answer_list(sheet: Sheet, out: &mut [u8], at: usize) -> Stepped
-    ensures { λ r. ⌜ Answers sheet (asks (list lentBuffer)) (now (out .entry)) at (now (out .exit)) r ⌝ }
+    ensures { λ r. ⌜ Answers sheet (accepted (asks (list lentBuffer))) (now (out .entry)) at (now (out .exit)) r ⌝ }
 {
     let mut space = lent_buffer();
     let words: &mut [u32] = &mut space;
@@ -96,7 +102,7 @@ fn answer_list(sheet: Sheet, out: &mut [u8], at: usize) -> Stepped
 
 // Answers fit.
 fn answer_fit(sheet: Sheet, size: Size, out: &mut [u8], at: usize) -> Stepped
-    ensures { λ r. ⌜ Answers sheet (asks (fit size lentBuffer)) (now (out .entry)) at (now (out .exit)) r ⌝ }
+    ensures { λ r. ⌜ Answers sheet (accepted (asks (fit size lentBuffer))) (now (out .entry)) at (now (out .exit)) r ⌝ }
 {
     let mut space = lent_buffer();
     let words: &mut [u32] = &mut space;
@@ -107,10 +113,10 @@ fn answer_fit(sheet: Sheet, size: Size, out: &mut [u8], at: usize) -> Stepped
 
 // The sheet after cut, turn, mirror or back, and the answer's line.
 fn after_edit(edit: Edited, out: &mut [u8], at: usize) -> Stepped
-    ensures { λ r. ⌜ (r .sheet ≡ edit .sheet) × Puts (now (out .entry)) at (answerText (afterEdit edit .0)) mostText (now (out .exit)) (r .at) ⌝ }
+    ensures { λ r. ⌜ (r .sheet ≡ edit .sheet) × Puts (now (out .entry)) at (answerText (afterEdit (editedMeans edit) .0)) mostText (now (out .exit)) (r .at) ⌝ }
 {
     let answer = edit.answer;
-    let next = put_outcome(out, at, edits::edit_number(answer));
+    let next = put_outcome(out, at, sheet::edits::edit_number(answer));
     let sheet = edit.sheet;
     Stepped { sheet, at: next }
 }
@@ -124,11 +130,11 @@ fn answer_load(
     out: &mut [u8],
     at: usize,
 ) -> Stepped
-    ensures { λ r. ⌜ Answers sheet (asks (load (blockPart (now (b .entry))) raw picture (modelPart (now (b .entry))))) (now (out .entry)) at (now (out .exit)) r ⌝ }
+    ensures { λ r. ⌜ Answers sheet (accepted (asks (load (blockPart (now (b .entry))) raw picture (modelPart (now (b .entry)))))) (now (out .entry)) at (now (out .exit)) r ⌝ }
 {
     let done = sheet.load(calls::block_of(b), raw, picture, calls::model_of(b));
     let answer = done.answer;
-    let next = put_outcome(out, at, load::focus::load_number(answer));
+    let next = put_outcome(out, at, placing::load::load_number(answer));
     let after = done.sheet;
     Stepped {
         sheet: after,
@@ -138,7 +144,7 @@ fn answer_load(
 
 // Answers contents.
 fn answer_contents(sheet: Sheet, block: &[u8], out: &mut [u8], at: usize) -> Stepped
-    ensures { λ r. ⌜ Answers sheet (contents (now (block .entry))) (now (out .entry)) at (now (out .exit)) r ⌝ }
+    ensures { λ r. ⌜ Answers sheet (accepted (contents (now (block .entry)))) (now (out .entry)) at (now (out .exit)) r ⌝ }
 {
     let list = reading::nikon::contents(block);
     let answer = list.answer;
@@ -148,7 +154,7 @@ fn answer_contents(sheet: Sheet, block: &[u8], out: &mut [u8], at: usize) -> Ste
             sheet,
             at: answers::put_no(out, at, 1),
         },
-        ContentsAnswer::Listed => Stepped {
+        ContentsAnswer::Tags => Stepped {
             sheet,
             at: answers::put_tags(out, at, &tags, list.count),
         },
@@ -157,7 +163,7 @@ fn answer_contents(sheet: Sheet, block: &[u8], out: &mut [u8], at: usize) -> Ste
 
 // Answers a malformed line.
 fn answer_malformed(sheet: Sheet, out: &mut [u8], at: usize) -> Stepped
-    ensures { λ r. ⌜ Answers sheet malformed (now (out .entry)) at (now (out .exit)) r ⌝ }
+    ensures { λ r. ⌜ Answers sheet (refused 14) (now (out .entry)) at (now (out .exit)) r ⌝ }
 {
     let next = answers::put_no(out, at, 14);
     Stepped { sheet, at: next }

@@ -6,23 +6,24 @@ use mathlib.Core.Path.{_≡_, _∙_}
 use lib.ListN.{length, set, length-append}
 use native.Mathlib.Omega.{arith}
 use native.Mathlib.Numerals.{add-one}
-use Rattle.fitting.specs.declared.focus.FocusPoint.{FocusPoint}
-use Rattle.load.specs.Load.{places, rowOf}
-use Rattle.edits.specs.declared.Placed.{Placed}
+use Rattle.placing.specs.declared.focus.FocusPoint.{FocusPoint}
+use Rattle.placing.specs.Load.{places}
+use Rattle.placing.specs.Inside.{rowOf}
+use Rattle.sheet.specs.declared.edits.Carried.{Carried}
 use Rattle.sheet.specs.declared.Sheet.{Sheet}
-use Rattle.load.specs.declared.focus.Row.{Row}
+use Rattle.placing.specs.declared.load.Row.{Row}
 use Rattle.sheet.specs.Sheet.{placedAt}
-use Rattle.sheet.specs.Listing.{ifListed, listing}
-use Rattle.load.proofs.Places.{set-places}
+use Rattle.sheet.specs.Lists.{ifCarried, listing}
+use Rattle.placing.proofs.Places.{set-places}
 
-one-at-most : (q : Placed) → length (ifListed q) ≤ 1
+one-at-most : (q : Carried) → length (ifCarried q) ≤ 1
 one-at-most q = by (q .listed)
   where
     by : (b : Bool) → length (cond b (q .point ∷ []) []) ≤ 1
     by true = omega arith
     by false = omega arith
 
-pub listing-more : (s : Sheet) (i : ℕ) → listing s (i + 1) ≡ listing s i ++ ifListed (placedAt s i)
+pub listing-more : (s : Sheet) (i : ℕ) → listing s (i + 1) ≡ listing s i ++ ifCarried (placedAt s i)
 unfolding listing
 listing-more s i = rw add-one
 
@@ -38,14 +39,14 @@ module _ (s : Sheet) (i n : ℕ) (ps : List FocusPoint) (hi : i < 39) (en : n �
   pub has-room : n ≤ i
   has-room = omega (arith, listing-length s i)
 
-  pub one-in : (q : Placed) → q ≡ placedAt s i → q .listed ≡ true
+  pub one-in : (q : Carried) → q ≡ placedAt s i → q .listed ≡ true
       → (n + 1 ≡ length (listing s (i + 1))) × (set ps n (q .point) ≡ places (listing s (i + 1)))
   one-in q e t =
       let b = has-room in
       let g : listing s (i + 1) ≡ listing s i ++ q .point ∷ [] = listing-more s i ∙ rw (← e, t) in
       rw g (rw (length-append, en), rw (ep, en) (set-places (listing s i) (q .point) (omega arith)))
 
-  pub none-in : (q : Placed) → q ≡ placedAt s i → q .listed ≡ false
+  pub none-in : (q : Carried) → q ≡ placedAt s i → q .listed ≡ false
       → (n ≡ length (listing s (i + 1))) × (ps ≡ places (listing s (i + 1)))
   none-in q e t =
       let g : listing s (i + 1) ≡ listing s i = listing-more s i ∙ rw (← e, t) (append-nil (listing s i)) in

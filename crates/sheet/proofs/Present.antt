@@ -6,14 +6,15 @@ use lib.Dec.{ltb}
 use lib.ListN.{take}
 use native.Mathlib.Omega.{arith}
 use borrow.Author.Tests.{lt-ltb, le-ltb}
-use Rattle.geometry.specs.declared.Size.{Size}
+use Rattle.reading.specs.declared.geometry.Size.{Size}
 use Rattle.sheet.specs.declared.Sheet.{Sheet}
-use Rattle.listing.specs.declared.Listing.{Listing}
+use Rattle.sheet.specs.declared.listing.Listing.{Listing}
 use Rattle.sheet.specs.declared.list.Present.{Present}
 use Rattle.sheet.specs.Sheet.{presentFrame}
-use Rattle.sheet.specs.Listing.{listed, listCount, listIndex, presentOf, isShort, headIn}
+use Rattle.sheet.specs.Lists.{listed, listCount, listIndex, isShort, headIn}
+use Rattle.sheet.specs.Inside.{presentOf}
 use Rattle.sheet.proofs.Usable.{Counts}
-use Rattle.load.proofs.Places.{take-places}
+use Rattle.placing.proofs.Places.{take-places}
 use Rattle.sheet.proofs.Listed.{listing-length}
 
 module _ (s : Sheet) (v : Present) (e : v ≡ presentOf s) where

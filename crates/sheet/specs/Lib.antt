@@ -1,2 +1,6 @@
-pub mod Sheet
+pub mod Place
+pub mod Answer
 pub mod Listing
+pub mod Sheet
+pub mod Lists
+pub mod Inside

@@ -5,29 +5,31 @@ use mathlib.Core.List.{List}
 use lib.Dec.{leb, ltb, eqb}
 use lib.ListN.{getD, length, replicate}
 use lib.Seq.{sets}
-use Rattle.tiff.specs.Outcome.{Outcome, refused, accepted}
-use Rattle.geometry.specs.declared.Size.{Size}
-use Rattle.afinfo.specs.declared.focus.FocusAreaMode.the-variants.{Unnamed}
-use Rattle.load.specs.declared.focus.FocusOrigin.the-variants.{Recorded}
-use Rattle.load.specs.declared.focus.FocusAnswer.{FocusAnswer}
-use Rattle.load.specs.declared.focus.FocusAnswer.the-variants as load
-use Rattle.load.specs.Load.{Focus, noPoint, places, refusalOf}
-use Rattle.edits.specs.declared.Edit.{Edit}
-use Rattle.edits.specs.declared.Edit.the-variants.{Turn, Mirror, Cut}
-use Rattle.edits.specs.declared.Placed.{Placed}
+use Rattle.reading.specs.Outcome.{Outcome, refused, accepted}
+use Rattle.reading.specs.declared.geometry.Size.{Size}
+use Rattle.reading.specs.declared.focus.FocusAreaMode.the-variants.{NoMode}
+use Rattle.placing.specs.declared.load.FocusOrigin.the-variants.{Recorded}
+use Rattle.placing.specs.Load.{Focus, noPoint, places, loadNumber}
+use Rattle.sheet.specs.declared.edits.Edit.{Edit}
+use Rattle.sheet.specs.declared.edits.Edit.the-variants.{Turn, Mirror, Cut}
+use Rattle.sheet.specs.declared.edits.Carried.{Carried}
 use Rattle.sheet.specs.declared.Sheet.{Sheet}
-use Rattle.edits.specs.declared.EditAnswer.{EditAnswer}
-use Rattle.edits.specs.declared.EditAnswer.the-variants.{Accepted, Empty, Full, BadCut, DropsPrimary, NothingStands}
 use Rattle.sheet.specs.declared.Edited.{Edited}
 use Rattle.sheet.specs.declared.Loaded.{Loaded}
-use Rattle.fitting.specs.Fit.{by}
-use Rattle.edits.specs.Place.{wordsOf, moved, placed, cutPasses}
+use Rattle.placing.specs.Fit.{by}
+use Rattle.sheet.specs.Answer.{editNumber}
+use Rattle.sheet.specs.Place.{wordsOf, moved, placed, cutPasses}
 
-abbrev pub edited : EditAnswer → Sheet → Edited
-edited a s = record { answer = a; sheet = s }
+-- how a call ends that gives nothing but a sheet: 01's number, 0 for accepted, and the sheet that it leaves
+abbrev pub leaves : ℕ → Sheet → ℕ × Sheet
+leaves n s = (n, s)
 
-abbrev pub loaded : FocusAnswer → Sheet → Loaded
-loaded a s = record { answer = a; sheet = s }
+-- what the code's values mean: 01's number for the answer, and the sheet
+abbrev pub editedMeans : Edited → ℕ × Sheet
+editedMeans r = leaves (editNumber (r .answer)) (r .sheet)
+
+abbrev pub loadedMeans : Loaded → ℕ × Sheet
+loadedMeans r = leaves (loadNumber (r .answer)) (r .sheet)
 
 -- "the fresh sheet, which is empty"
 unfoldable pub freshSheet : Sheet
@@ -38,7 +40,7 @@ freshSheet =
       points = replicate 39 noPoint;
       count = 0;
       primary = 0;
-      «area_mode» = Unnamed;
+      «area_mode» = NoMode;
       origin = Recorded;
       edits = replicate 320 0;
       standing = 0;
@@ -60,9 +62,9 @@ loadedSheet f =
     }
 
 -- "accepted, it replaces sheet and edits"; refused, "sheet kept"
-unfoldable pub loadSheet : Sheet → Outcome Focus → Loaded
-loadSheet s (refused n) = loaded (load.Refused (refusalOf n)) s
-loadSheet s (accepted f) = loaded load.Placed (loadedSheet f)
+unfoldable pub loadSheet : Sheet → Outcome Focus → ℕ × Sheet
+loadSheet s (refused n) = leaves n s
+loadSheet s (accepted f) = leaves 0 (loadedSheet f)
 
 -- a sheet that every call but load takes for a loaded one. Any other is empty to them: a fresh one, and one made by hand
 -- whose counts pass its places or whose primary is no point
@@ -71,7 +73,7 @@ usable s =
     s .loaded && (leb (s .count) 39 && (ltb (s .primary) (s .count) && leb (s .standing) 64))
 
 -- a point of the load, where the standing edits carry it
-unfoldable pub placedAt : Sheet → ℕ → Placed
+unfoldable pub placedAt : Sheet → ℕ → Carried
 placedAt s i = placed (s .frame) (getD (s .points) i noPoint) (s .edits) (s .standing)
 
 -- "The present frame is the load's, changed by each standing edit in order": the one that the primary is in
@@ -98,32 +100,32 @@ unfoldable pub addEdit : Sheet → Edit → Sheet
 addEdit s e = withEdits s (sets (s .edits) (s .standing * 5) (wordsOf e)) (s .standing + 1)
 
 -- what cut, turn and mirror test first: 7 "sheet is empty", 8 "64 edits stand"
-unfoldable pub ifOpen : Sheet → Edited → Edited
-ifOpen s r = cond (usable s) (cond (ltb (s .standing) 64) r (edited Full s)) (edited Empty s)
+unfoldable pub ifOpen : Sheet → ℕ × Sheet → ℕ × Sheet
+ifOpen s r = cond (usable s) (cond (ltb (s .standing) 64) r (leaves 8 s)) (leaves 7 s)
 
-unfoldable pub turnSheet : Sheet → Edited
-turnSheet s = ifOpen s (edited Accepted (addEdit s Turn))
+unfoldable pub turnSheet : Sheet → ℕ × Sheet
+turnSheet s = ifOpen s (leaves 0 (addEdit s Turn))
 
-unfoldable pub mirrorSheet : Sheet → Edited
-mirrorSheet s = ifOpen s (edited Accepted (addEdit s Mirror))
+unfoldable pub mirrorSheet : Sheet → ℕ × Sheet
+mirrorSheet s = ifOpen s (leaves 0 (addEdit s Mirror))
 
 -- 10, "cut would drop the primary": whether the primary is listed after one more edit
 unfoldable pub keepsPrimary : Sheet → Edit → Bool
 keepsPrimary s e = moved e (placedAt s (s .primary)) .listed
 
-unfoldable pub cutSheet : Sheet → ℕ → ℕ → ℕ → ℕ → Edited
+unfoldable pub cutSheet : Sheet → ℕ → ℕ → ℕ → ℕ → ℕ × Sheet
 cutSheet s l t w h =
     ifOpen s
     (cond (cutPasses l t w h (presentFrame s))
     (cond (keepsPrimary s (Cut l t w h))
-    (edited Accepted (addEdit s (Cut l t w h)))
-    (edited DropsPrimary s))
-    (edited BadCut s))
+    (leaves 0 (addEdit s (Cut l t w h)))
+    (leaves 10 s))
+    (leaves 9 s))
 
 -- "Back removes the last edit": 7 "sheet is empty", 11 "no edit stands"
-unfoldable pub backSheet : Sheet → Edited
+unfoldable pub backSheet : Sheet → ℕ × Sheet
 backSheet s =
     cond (usable s)
-    (cond (eqb (s .standing) 0) (edited NothingStands s)
-    (edited Accepted (withEdits s (s .edits) (s .standing - 1))))
-    (edited Empty s)
+    (cond (eqb (s .standing) 0) (leaves 11 s)
+    (leaves 0 (withEdits s (s .edits) (s .standing - 1))))
+    (leaves 7 s)

@@ -1,21 +1,24 @@
 // The sheet: the points of one load, under edits that stand until they are taken back. A public method takes the sheet by value and
 // asks nothing of its caller; load, cut, turn, mirror and back give back the sheet that they leave, list and fit do not change it. A
 // refused call changes nothing.
-use afinfo::focus::FocusAreaMode;
-use edits::Edit;
-use edits::EditAnswer;
-use edits::Placed;
-use fitting::focus::FocusPoint;
-use geometry::OptionalSize;
-use geometry::Size;
-use load::focus::FocusAnswer;
-use load::focus::FocusOrigin;
+use crate::edits::Carried;
+use crate::edits::Edit;
+use crate::edits::EditAnswer;
+use placing::focus::FocusPoint;
+use placing::load::FocusAnswer;
+use placing::load::FocusOrigin;
+use reading::focus::FocusAreaMode;
+use reading::geometry::OptionalSize;
+use reading::geometry::Size;
 ghost use mathlib.Core.Path.{_≡_};
 ghost use Prim.Native.Nat.{_<_, _≤_};
 ghost use Rattle.placing.specs.Focus.{focusOf};
-ghost use Rattle.sheet.specs.Sheet.{edited, freshSheet, loadSheet, usable, placedAt, addEdit, ifOpen, turnSheet, mirrorSheet, cutSheet, backSheet};
+ghost use Rattle.sheet.specs.Answer.{editNumber};
+ghost use Rattle.sheet.specs.Sheet.{leaves, editedMeans, loadedMeans, freshSheet, loadSheet, usable, placedAt, addEdit, ifOpen, turnSheet, mirrorSheet, cutSheet, backSheet};
 
+pub mod edits; // an edit, and the place of one point after some edits
 pub mod list; // the listing of the points where they are now, and in another frame
+pub mod listing; // six numbers a point in a lent buffer, and what is said beside them
 
 // How many edits may stand.
 const MOST_EDITS: usize = 64;
@@ -51,7 +54,7 @@ impl Sheet {
     pub fn new() -> Sheet
         ensures { λ r. ⌜ r ≡ freshSheet ⌝ }
     {
-        let points = load::focus::no_places();
+        let points = placing::load::no_places();
         let edits = [0u32; 320];
         Sheet {
             loaded: false,
@@ -62,7 +65,7 @@ impl Sheet {
             points,
             count: 0,
             primary: 0,
-            area_mode: FocusAreaMode::Unnamed,
+            area_mode: FocusAreaMode::NoMode,
             origin: FocusOrigin::Recorded,
             edits,
             standing: 0,
@@ -77,7 +80,7 @@ impl Sheet {
         picture: OptionalSize,
         model: &[u8],
     ) -> Loaded
-        ensures { λ r. ⌜ r ≡ loadSheet self (focusOf (now (block .entry)) raw picture (now (model .entry))) ⌝ }
+        ensures { λ r. ⌜ loadedMeans r ≡ loadSheet self (focusOf (now (block .entry)) raw picture (now (model .entry))) ⌝ }
     {
         let focus = placing::nikon::focus(block, raw, picture, model);
         let answer = focus.answer;
@@ -86,7 +89,7 @@ impl Sheet {
                 answer: FocusAnswer::Refused(why),
                 sheet: self,
             },
-            FocusAnswer::Placed => {
+            FocusAnswer::Accepted => {
                 let frame = focus.frame;
                 let points = focus.points;
                 let area_mode = focus.area_mode;
@@ -104,7 +107,7 @@ impl Sheet {
                     standing: 0,
                 };
                 Loaded {
-                    answer: FocusAnswer::Placed,
+                    answer: FocusAnswer::Accepted,
                     sheet,
                 }
             }
@@ -128,7 +131,7 @@ impl Sheet {
     }
 
     // The point at an index, where the standing edits carry it.
-    fn place_at(self, i: usize) -> Placed
+    fn place_at(self, i: usize) -> Carried
         requires { ⌜ (i < 39) × (self .standing ≤ 64) ⌝ }
         ensures { λ r. ⌜ r ≡ placedAt self i ⌝ }
     {
@@ -136,7 +139,7 @@ impl Sheet {
         let point = self.points[i];
         let words = self.edits;
         let n = self.standing;
-        edits::place_after(frame, point, &words, n)
+        crate::edits::place_after(frame, point, &words, n)
     }
 
     // The sheet with one more edit.
@@ -144,7 +147,7 @@ impl Sheet {
         requires { ⌜ self .standing < 64 ⌝ }
         ensures { λ r. ⌜ r ≡ addEdit self edit ⌝ }
     {
-        let words = edits::words_of(edit);
+        let words = crate::edits::words_of(edit);
         let n = self.standing;
         let at = n * 5;
         let mut next = self;
@@ -159,7 +162,7 @@ impl Sheet {
 
     // The sheet as it is, after a call that ends so.
     fn ends(self, answer: EditAnswer) -> Edited
-        ensures { λ r. ⌜ r ≡ edited answer self ⌝ }
+        ensures { λ r. ⌜ editedMeans r ≡ leaves (editNumber answer) self ⌝ }
     {
         Edited {
             answer,
@@ -169,7 +172,7 @@ impl Sheet {
 
     // One more edit, where the sheet is not empty and has room for it.
     fn add(self, edit: Edit) -> Edited
-        ensures { λ r. ⌜ r ≡ ifOpen self (edited EditAnswer.Accepted (addEdit self edit)) ⌝ }
+        ensures { λ r. ⌜ editedMeans r ≡ ifOpen self (leaves 0 (addEdit self edit)) ⌝ }
     {
         if !self.is_usable() {
             return self.ends(EditAnswer::Empty);
@@ -183,21 +186,21 @@ impl Sheet {
 
     // The sheet turned clockwise, by a quarter rotation.
     pub fn turn(self) -> Edited
-        ensures { λ r. ⌜ r ≡ turnSheet self ⌝ }
+        ensures { λ r. ⌜ editedMeans r ≡ turnSheet self ⌝ }
     {
         self.add(Edit::Turn)
     }
 
     // The sheet with left and right exchanged.
     pub fn mirror(self) -> Edited
-        ensures { λ r. ⌜ r ≡ mirrorSheet self ⌝ }
+        ensures { λ r. ⌜ editedMeans r ≡ mirrorSheet self ⌝ }
     {
         self.add(Edit::Mirror)
     }
 
     // The sheet cut to a rectangle of the present frame.
     pub fn cut(self, left: u32, top: u32, width: u32, height: u32) -> Edited
-        ensures { λ r. ⌜ r ≡ cutSheet self left top width height ⌝ }
+        ensures { λ r. ⌜ editedMeans r ≡ cutSheet self left top width height ⌝ }
     {
         if !self.is_usable() {
             return self.ends(EditAnswer::Empty);
@@ -208,7 +211,7 @@ impl Sheet {
         let primary = self.primary;
         let place = self.place_at(primary);
         let frame = place.frame;
-        if !edits::cut_passes(left, top, width, height, frame) {
+        if !crate::edits::cut_passes(left, top, width, height, frame) {
             return self.ends(EditAnswer::BadCut);
         }
         let edit = Edit::Cut {
@@ -217,7 +220,7 @@ impl Sheet {
             width,
             height,
         };
-        let after = edits::move_by(edit, place);
+        let after = crate::edits::move_by(edit, place);
         if !after.listed {
             return self.ends(EditAnswer::DropsPrimary);
         }
@@ -227,7 +230,7 @@ impl Sheet {
 
     // The sheet without its last edit. The words of that edit stay behind the standing ones and are read no more.
     pub fn back(self) -> Edited
-        ensures { λ r. ⌜ r ≡ backSheet self ⌝ }
+        ensures { λ r. ⌜ editedMeans r ≡ backSheet self ⌝ }
     {
         if !self.is_usable() {
             return self.ends(EditAnswer::Empty);

@@ -1,16 +1,18 @@
 // The listing of the points where the standing edits leave them, and in another frame.
 use crate::Sheet;
-use fitting::focus::FocusPoint;
-use geometry::Size;
-use listing::ListAnswer;
-use listing::Listing;
-use load::focus::Row;
+use crate::listing::ListAnswer;
+use crate::listing::Listing;
+use placing::focus::FocusPoint;
+use placing::load::Row;
+use reading::geometry::Size;
 ghost use mathlib.Core.Path.{_≡_};
 ghost use mathlib.Core.List.{[], _++_};
 ghost use Prim.Native.Nat.{_+_, _<_, _≤_};
 ghost use lib.ListN.{length, take, drop};
-ghost use Rattle.load.specs.Load.{rowOf};
-ghost use Rattle.sheet.specs.Listing.{listing, presentOf, scaledAll, listAnswer, listBuffer, fitAnswer, fitBuffer};
+ghost use Rattle.placing.specs.Inside.{rowOf};
+ghost use Rattle.sheet.specs.Lists.{listing, scaledAll, listOutcome, listBuffer, fitOutcome, fitBuffer};
+ghost use Rattle.sheet.specs.Listing.{listMeans};
+ghost use Rattle.sheet.specs.Inside.{presentOf};
 
 // The listed points in 39 places, how many there are, the primary's index among them, and their frame.
 struct Present {
@@ -29,7 +31,7 @@ fn scaled_points(points: [FocusPoint; 39], n: usize, old: Size, new: Size) -> [F
     let mut i: usize = 0;
     while i < n {
         let p = points[i];
-        scaled[i] = fitting::focus::scaled_point(p, old, new);
+        scaled[i] = placing::focus::scaled_point(p, old, new);
         i += 1;
     }
     scaled
@@ -39,7 +41,7 @@ fn scaled_points(points: [FocusPoint; 39], n: usize, old: Size, new: Size) -> [F
 fn empty_row() -> Row
     ensures { λ r. ⌜ r ≡ rowOf [] ⌝ }
 {
-    let points = load::focus::no_places();
+    let points = placing::load::no_places();
     Row { points, count: 0 }
 }
 
@@ -57,7 +59,7 @@ impl Sheet {
         let mut i = from;
         while i < to {
             let p = self.points[i];
-            let place = edits::place_after(frame, p, &words, standing);
+            let place = crate::edits::place_after(frame, p, &words, standing);
             if place.listed {
                 let q = place.point;
                 points[count] = q;
@@ -90,7 +92,7 @@ impl Sheet {
 
     // Writes the listed points at the buffer's front, in the load's order.
     pub fn list(self, out: &mut [u32]) -> ListAnswer
-        ensures { λ r. ⌜ (r ≡ listAnswer self (length (now (out .entry)))) × (now (out .exit) ≡ listBuffer self (now (out .entry))) ⌝ }
+        ensures { λ r. ⌜ (listMeans r ≡ listOutcome self (length (now (out .entry)))) × (now (out .exit) ≡ listBuffer self (now (out .entry))) ⌝ }
     {
         if !self.is_usable() {
             return ListAnswer::Empty;
@@ -98,7 +100,7 @@ impl Sheet {
         let present = self.present();
         let count = present.count;
         let points = present.points;
-        if !listing::write_points(points, count, out) {
+        if !crate::listing::write_points(points, count, out) {
             return ListAnswer::Short;
         }
         let frame = present.frame;
@@ -115,12 +117,12 @@ impl Sheet {
 
     // Writes the listed points as `list` does, measured in a frame of `size`.
     pub fn fit(self, size: Size, out: &mut [u32]) -> ListAnswer
-        ensures { λ r. ⌜ (r ≡ fitAnswer self size (length (now (out .entry)))) × (now (out .exit) ≡ fitBuffer self size (now (out .entry))) ⌝ }
+        ensures { λ r. ⌜ (listMeans r ≡ fitOutcome self size (length (now (out .entry)))) × (now (out .exit) ≡ fitBuffer self size (now (out .entry))) ⌝ }
     {
         if !self.is_usable() {
             return ListAnswer::Empty;
         }
-        if fitting::focus::has_zero_side(size) {
+        if placing::focus::has_zero_side(size) {
             return ListAnswer::ZeroBox;
         }
         let present = self.present();
@@ -128,7 +130,7 @@ impl Sheet {
         let points = present.points;
         let frame = present.frame;
         let scaled = scaled_points(points, count, frame, size);
-        if !listing::write_points(scaled, count, out) {
+        if !crate::listing::write_points(scaled, count, out) {
             return ListAnswer::Short;
         }
         let mode = self.area_mode;

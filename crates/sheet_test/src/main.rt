@@ -3,16 +3,16 @@
 // numbers, the model's length in a byte, the block's length in two, the model, the block. 2 cut: left, top, width, height. 3 turn.
 // 4 mirror. 5 back. 6 list: the buffer's places in a byte. 7 fit: width, height, and the buffer's places in a byte. Numbers are
 // big-endian. Place i of a buffer holds i + 1 before a call. No contract can say what is printed: that is held to `stdout`.
-use geometry::OptionalSize;
-use geometry::Size;
 use libc::STDIN_FILENO;
 use libc::STDOUT_FILENO;
-use listing::ListAnswer;
-use listing::Listing;
 use numbers::io::ByteOrder;
+use reading::geometry::OptionalSize;
+use reading::geometry::Size;
 use sheet::Edited;
 use sheet::Loaded;
 use sheet::Sheet;
+use sheet::listing::ListAnswer;
+use sheet::listing::Listing;
 ghost use mathlib.Core.Path.{_≡_};
 ghost use lib.ListN.{length};
 
@@ -38,14 +38,14 @@ fn print_number(n: u32) {
 
 fn after_edit(r: Edited) -> Sheet {
     let answer = r.answer;
-    print_number(edits::edit_number(answer));
+    print_number(sheet::edits::edit_number(answer));
     let s = r.sheet;
     s
 }
 
 fn after_load(r: Loaded) -> Sheet {
     let answer = r.answer;
-    print_number(load::focus::load_number(answer));
+    print_number(placing::load::load_number(answer));
     let s = r.sheet;
     s
 }
@@ -58,14 +58,14 @@ fn print_head(l: Listing) {
     number(b" ", frame.height);
     number(b" points ", (l.count % 64) as u32);
     number(b" primary ", (l.index % 64) as u32);
-    number(b" mode ", afinfo::focus::mode_number(mode));
-    number(b" origin ", load::focus::origin_number(origin));
+    number(b" mode ", reading::focus::mode_number(mode));
+    number(b" origin ", placing::load::origin_number(origin));
 }
 
 fn print_list(a: ListAnswer) {
     match a {
         ListAnswer::Listed(l) => print_head(l),
-        _ => number(b"no ", listing::list_number(a)),
+        _ => number(b"no ", sheet::listing::list_number(a)),
     }
 }
 

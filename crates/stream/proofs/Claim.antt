@@ -1,83 +1,124 @@
--- The claim of streaming. Pieces one after the other are answered as the one piece that they make up (`pieces-join`); and one piece is
--- answered as its lines are, where what a line spells does not depend on what comes after m characters of it (`whole`, by induction
--- over the characters). So it is with 4,097 (`line-cut`), and the lines are answered as the journal says (`lines-claim`). Assumes
--- nothing.
-use Prim.Native.Nat.{ℕ, _<_, _≤_}
-use mathlib.Core.Path.{_≡_, refl, sym, ap, _∙_}
+-- The claim of streaming. Of calls one after the other, the sheet, the held line and the text are those after all that they used
+-- (`so-far`); and a script in one piece is answered as its lines are, since what a line spells does not depend on what comes after
+-- 4,097 characters of it (`whole`, by induction over the characters, from `line-cut`). The lines are answered as the journal says
+-- (`lines-claim`). Then that what `feed` promises determines its outcome: first what is used, then all else. Assumes nothing.
+use Prim.Native.Nat.{ℕ, _+_, _-_, _<_, _≤_}
+use mathlib.Core.Path.{_≡_, refl, sym, ap, _∙_, subst}
 use mathlib.Core.Bool.{true, false}
-use mathlib.Core.List.{List, [], _∷_, _++_, append-nil, append-assoc}
+use mathlib.Core.List.{List, [], _∷_, _++_, append-nil, append-assoc, flatten}
 use mathlib.Core.Logic.{⊎-elim}
 use lib.Dec.{eqb}
-use lib.ListN.{length, take, length-take}
-use lib.Seq.{take-all, take-append-le, length-take-le, take-nil}
+use lib.ListN.{length, take, drop, length-take}
+use lib.Seq.{sets-eq, take-at, drop-at, take-all, take-append-le, length-take-le, take-nil}
 use native.Mathlib.Omega.{arith}
 use borrow.Author.Tests.{ne-eqb}
 use Rattle.laws.proofs.Tests.{by-bool, by-order}
+use Rattle.text.specs.Put.{Put}
+use Rattle.text.proofs.Laws.{put-room}
 use Rattle.sheet.specs.declared.Sheet.{Sheet}
 use Rattle.sheet.specs.Sheet.{freshSheet}
-use Rattle.session.specs.Lines.{spelled, sheetText, sheetNext}
-use Rattle.session.specs.Claim.{sheetTexts}
+use Rattle.session.specs.Lines.{spelled}
+use Rattle.session.specs.Answering.{sheetText, sheetNext, sheetTexts}
 use Rattle.session.proofs.Claim.{lines-claim}
 use Rattle.session.proofs.Laws.{line-cut}
-use Rattle.script.specs.Script.{linesFrom, joined, scriptText}
-use Rattle.stream.specs.Stream.{kept, heldAfter, sheetAfter, textIn, lastText}
-use Rattle.stream.specs.Claim.{piecesText, StreamClaim}
-use Rattle.stream.proofs.Pieces.{held-app, sheet-app, text-app}
+use Rattle.script.specs.Script.{linesFrom, scriptText}
+use Rattle.stream.specs.declared.Fed.{Fed}
+use Rattle.stream.specs.Stream.{lineRoom, kept, heldAfterPiece, sheetAfterPiece, pieceText, lastText, Taken}
+use Rattle.stream.specs.Claim.{between, FedCalls, none-yet, one-more, StreamClaim, OneOutcome}
+use Rattle.stream.proofs.Pieces.{held-app, sheet-app, text-app, held-nil, sheet-nil, text-nil}
 
--- pieces, and the one piece that they make up
-pieces-join : (m : ℕ) (ps : List (List ℕ)) (s : Sheet) (h : List ℕ)
-    → piecesText m s h ps ≡ textIn m s h (joined ps) ++ lastText (sheetAfter m s h (joined ps)) (heldAfter m h (joined ps))
-unfolding piecesText joined textIn sheetAfter heldAfter
-pieces-join m [] s h = refl
-pieces-join m (p ∷ ps) s h =
-    ap (λ (t : List ℕ). textIn m s h p ++ t) (pieces-join m ps (sheetAfter m s h p) (heldAfter m h p)) ∙
-    rw (text-app m s h p (joined ps), sheet-app m s h p (joined ps), held-app m h p (joined ps))
-    (sym
-    (append-assoc (textIn m s h p)
-    (textIn m (sheetAfter m s h p) (heldAfter m h p) (joined ps))
-    (lastText (sheetAfter m (sheetAfter m s h p) (heldAfter m h p) (joined ps)) (heldAfter m (heldAfter m h p) (joined ps)))))
-
-take-kept : (m c : ℕ) (l : List ℕ) → take m (l ++ (c ∷ [])) ≡ kept m (take m l) c
-take-kept m c l =
+-- ---- a script in one piece
+take-kept : (c : ℕ) (l : List ℕ) → take lineRoom (l ++ (c ∷ [])) ≡ kept (take lineRoom l) c
+take-kept c l =
     ⊎-elim
-    (λ (h : length l < m). rw (take-all m l (omega arith)))
-    (λ (h : m ≤ length l).
-    let e : length (take m l) ≡ m = length-take-le m l h in
-    rw (take-append-le m l (c ∷ []) h, take-append-le m (take m l) (c ∷ []) (omega arith), take-all m (take m l) (omega arith)))
-    (by-order (length l) m)
+    (λ (h : length l < lineRoom). rw (take-all lineRoom l (omega arith)))
+    (λ (h : lineRoom ≤ length l).
+    let e : length (take lineRoom l) ≡ lineRoom = length-take-le lineRoom l h in
+    rw (take-append-le lineRoom l (c ∷ []) h, take-append-le lineRoom (take lineRoom l) (c ∷ []) (omega arith), take-all lineRoom (take lineRoom l) (omega arith)))
+    (by-order (length l) lineRoom)
 
--- the lines' texts, where m characters of a line are enough
-module _ (m : ℕ) (some : 0 < m) (cut : (line : List ℕ) → spelled (take m line) ≡ spelled line) where
-  ended : (s : Sheet) (l : List ℕ) → joined (sheetTexts s (linesFrom l [])) ≡ lastText s (take m l)
-  unfolding joined sheetTexts linesFrom lastText
-  ended s [] = rw (take-nil {A = ℕ} m)
-  ended s (c ∷ l) =
-      let e : eqb (length (take m (c ∷ l))) 0 ≡ false = ne-eqb (length (take m (c ∷ l))) 0 (λ z. omega (arith, length-take m (c ∷ l))) in
-      rw (ne-eqb (length (c ∷ l)) 0 (λ z. omega arith), e, cut (c ∷ l)) (append-nil (sheetText s (spelled (c ∷ l))))
+ended : (s : Sheet) (l : List ℕ) → flatten (sheetTexts s (linesFrom l [])) ≡ lastText s (take lineRoom l)
+unfolding flatten sheetTexts linesFrom lastText
+ended s [] = rw (take-nil {A = ℕ} lineRoom)
+ended s (c ∷ l) =
+    let e : eqb (length (take lineRoom (c ∷ l))) 0 ≡ false =
+    ne-eqb (length (take lineRoom (c ∷ l))) 0 (λ z. omega (arith, length-take lineRoom (c ∷ l))) in
+    rw (ne-eqb (length (c ∷ l)) 0 (λ z. omega arith), e, line-cut (c ∷ l)) (append-nil (sheetText s (spelled (c ∷ l))))
 
-  pub whole : (t l : List ℕ) (s : Sheet)
-      → joined (sheetTexts s (linesFrom l t))
-      ≡ textIn m s (take m l) t ++ lastText (sheetAfter m s (take m l) t) (heldAfter m (take m l) t)
-  unfolding joined sheetTexts linesFrom textIn sheetAfter heldAfter
-  whole [] l s = ended s l
-  whole (c ∷ t) l s =
-      ⊎-elim
-      (λ (e : eqb c 10 ≡ true).
-      let s₁ : Sheet = sheetNext s (spelled l) in
-      let z : joined (sheetTexts s₁ (linesFrom [] t)) ≡ textIn m s₁ [] t ++ lastText (sheetAfter m s₁ [] t) (heldAfter m [] t) =
-      rw (take-nil {A = ℕ} m) at (whole t [] s₁) in
-      rw (e, cut l, z)
-      (sym (append-assoc (sheetText s (spelled l)) (textIn m s₁ [] t) (lastText (sheetAfter m s₁ [] t) (heldAfter m [] t)))))
-      (λ (e : eqb c 10 ≡ false). rw (e, ← take-kept m c l) (whole t (l ++ (c ∷ [])) s))
-      (by-bool (eqb c 10))
+-- what comes after the characters `l` of a line
+whole : (t l : List ℕ) (s : Sheet)
+    → flatten (sheetTexts s (linesFrom l t))
+    ≡ pieceText s (take lineRoom l) t ++ lastText (sheetAfterPiece s (take lineRoom l) t) (heldAfterPiece (take lineRoom l) t)
+unfolding flatten sheetTexts linesFrom pieceText sheetAfterPiece heldAfterPiece
+whole [] l s = ended s l
+whole (c ∷ t) l s =
+    ⊎-elim
+    (λ (e : eqb c 10 ≡ true).
+    let s₁ : Sheet = sheetNext s (spelled l) in
+    let z : flatten (sheetTexts s₁ (linesFrom [] t)) ≡ pieceText s₁ [] t ++ lastText (sheetAfterPiece s₁ [] t) (heldAfterPiece [] t) =
+    rw (take-nil {A = ℕ} lineRoom) at (whole t [] s₁) in
+    rw (e, line-cut l, z)
+    (sym (append-assoc (sheetText s (spelled l)) (pieceText s₁ [] t) (lastText (sheetAfterPiece s₁ [] t) (heldAfterPiece [] t)))))
+    (λ (e : eqb c 10 ≡ false). rw (e, ← take-kept c l) (whole t (l ++ (c ∷ [])) s))
+    (by-bool (eqb c 10))
 
--- a script in one piece
 one-piece : (script : List ℕ)
-    → joined (sheetTexts freshSheet (linesFrom [] script))
-    ≡ textIn 4097 freshSheet [] script ++ lastText (sheetAfter 4097 freshSheet [] script) (heldAfter 4097 [] script)
-one-piece script = rw (take-nil {A = ℕ} 4097) at (whole 4097 (omega arith) line-cut script [] freshSheet)
+    → pieceText freshSheet [] script ++ lastText (sheetAfterPiece freshSheet [] script) (heldAfterPiece [] script) ≡ scriptText script
+unfolding scriptText
+one-piece script =
+    sym (rw (take-nil {A = ℕ} lineRoom) at (whole script [] freshSheet)) ∙ ap flatten (lines-claim (linesFrom [] script))
+
+-- ---- calls one after the other
+-- a text that has found room in a buffer lies between its place and the next
+laid-between : {o t o₁ : List ℕ} {a a₁ : ℕ} → Put o a t o₁ a₁ → a + length t ≤ length o → between a a₁ o₁ ≡ t
+laid-between {o} {t} {o₁} {a} {a₁} p f =
+    let k : a₁ - a ≡ length t = omega (arith, put-room p f) in
+    let e : o₁ ≡ take a o ++ (t ++ drop (a + length t) o) =
+    p .laid ∙ sets-eq t o a f ∙ append-assoc (take a o) t (drop (a + length t) o) in
+    let d : drop a (take a o ++ (t ++ drop (a + length t) o)) ≡ t ++ drop (a + length t) o =
+    drop-at (take a o) (t ++ drop (a + length t) o) a (length-take-le a o (omega arith)) in
+    rw (k, e, d) (take-at t (drop (a + length t) o) (length t) refl)
+
+record SoFar (script text : List ℕ) (s : Sheet) (h : List ℕ) : Type 0 where
+  written : text ≡ pieceText freshSheet [] script
+  sheet : s ≡ sheetAfterPiece freshSheet [] script
+  held : h ≡ heldAfterPiece [] script
+
+so-far : {script text line : List ℕ} {s : Sheet} {held : ℕ} → FedCalls script text s line held → SoFar script text s (take held line)
+so-far (none-yet line) =
+    record { written = sym (text-nil freshSheet []); sheet = sym (sheet-nil freshSheet []); held = sym (held-nil []) }
+so-far (one-more {script} {text} {line} {s} {held} input before at after line₁ r calls inside p) =
+    let q : SoFar script text s (take held line) = so-far calls in
+    let u : List ℕ = take (r .used) input in
+    let w : between at (r .at) after ≡ pieceText s (take held line) u = laid-between (p .put) (p .none-cut inside) in
+    record {
+      written = rw (w, q .written, q .sheet, q .held) (sym (text-app freshSheet [] script u));
+      sheet = p .taken .sheet-after ∙ rw (q .sheet, q .held) (sym (sheet-app freshSheet [] script u));
+      held = p .taken .holding .held-after ∙ rw (q .held) (sym (held-app [] script u));
+    }
 
 pub stream-claim : StreamClaim
-unfolding scriptText
-stream-claim pieces =
-    pieces-join 4097 pieces freshSheet [] ∙ sym (one-piece (joined pieces)) ∙ ap joined (lines-claim (linesFrom [] (joined pieces)))
+stream-claim script text line s held before at after next calls room p =
+    let q : SoFar script text s (take held line) = so-far calls in
+    let w : between at next after ≡ lastText s (take held line) = laid-between (p .put) (omega (arith, room, p .short)) in
+    rw (w, q .written, q .sheet, q .held) (one-piece script)
+
+-- ---- one outcome: what is used, then the sheet, both buffers, the place, and how much is held
+fed-one : {r r₁ : Fed} → r .sheet ≡ r₁ .sheet → r .held ≡ r₁ .held → r .at ≡ r₁ .at → r .used ≡ r₁ .used → r ≡ r₁
+fed-one e f g h i = record { sheet = e i; held = f i; at = g i; used = h i }
+
+pub one-outcome : OneOutcome
+one-outcome s line h input before at after line₁ r after₂ line₂ r₂ p q =
+    let e : r .used ≡ r₂ .used = p .used-is ∙ sym (q .used-is) in
+    let t : Taken s line h (take (r₂ .used) input) (r .sheet) line₁ (r .held) =
+    subst (λ (k : ℕ). Taken s line h (take k input) (r .sheet) line₁ (r .held)) e (p .taken) in
+    let w : Put before at (pieceText s h (take (r₂ .used) input)) after (r .at) =
+    subst (λ (k : ℕ). Put before at (pieceText s h (take k input)) after (r .at)) e (p .put) in (
+      w .laid ∙ sym (q .put .laid),
+      t .holding .line-after ∙ sym (q .taken .holding .line-after),
+      fed-one
+          (t .sheet-after ∙ sym (q .taken .sheet-after))
+          (t .holding .held-count ∙ sym (q .taken .holding .held-count))
+          (w .place ∙ sym (q .put .place))
+          e,
+    )

@@ -1,13 +1,18 @@
 // A script that comes in pieces of any size: each piece is answered as far as it goes, and the start of a line whose feed has not come
 // yet is held in a lent line.
+use session::Stepped;
 use sheet::Sheet;
 ghost use mathlib.Core.Path.{_≡_};
 ghost use lib.Dec.{leb};
-ghost use lib.ListN.{length, take, set};
-ghost use Prim.Native.Nat.{_+_, _≤_};
-ghost use Rattle.text.specs.Put.{Put};
-ghost use Rattle.session.specs.Lines.{mostText};
-ghost use Rattle.stream.specs.Stream.{kept, lastText, Runs, Lines, Feeds};
+ghost use lib.ListN.{take};
+ghost use Prim.Native.Nat.{_+_};
+ghost use Rattle.session.specs.Lines.{spelled};
+ghost use Rattle.session.specs.Answering.{mostText, Answers};
+ghost use Rattle.stream.specs.Stream.{Feeds, Ends};
+ghost use Rattle.stream.specs.Inside.{HeldIn, CharKept, RunTaken, LineTaken};
+
+// A lent line's places: one character more than a line may have, so that an overlong one is known.
+pub const LINE_ROOM: usize = 4097;
 
 // No answer is longer than this.
 const MOST_TEXT: usize = 2700;
@@ -38,8 +43,8 @@ fn has_room(len: usize, at: usize) -> bool
 
 // Holds one more character of a line, if there is room for it.
 fn keep(line: &mut [u8], held: usize, b: u8) -> usize
-    requires { ⌜ held ≤ length (now line) ⌝ }
-    ensures { λ r. ⌜ (take r (now (line .exit)) ≡ kept (length (now (line .entry))) (take held (now (line .entry))) b) × (now (line .exit) ≡ set (now (line .entry)) held b) × (r ≤ length (now (line .entry))) ⌝ }
+    requires { ⌜ HeldIn (now line) held ⌝ }
+    ensures { λ r. ⌜ CharKept (now (line .entry)) held b (now (line .exit)) r ⌝ }
 {
     if held >= line.len() {
         return held;
@@ -50,8 +55,8 @@ fn keep(line: &mut [u8], held: usize, b: u8) -> usize
 
 // Holds the characters of a piece up to the first line feed, or to its end.
 fn take_run(line: &mut [u8], held: usize, input: &[u8]) -> Run
-    requires { ⌜ held ≤ length (now line) ⌝ }
-    ensures { λ r. ⌜ Runs (now (line .entry)) held (now (input .entry)) (now (line .exit)) r ⌝ }
+    requires { ⌜ HeldIn (now line) held ⌝ }
+    ensures { λ r. ⌜ RunTaken (now (line .entry)) (take held (now (line .entry))) (now (input .entry)) (now (line .exit)) r ⌝ }
 {
     let mut n = held;
     let mut i = 0;
@@ -66,6 +71,14 @@ fn take_run(line: &mut [u8], held: usize, input: &[u8]) -> Run
     Run { held: n, used: i }
 }
 
+// Answers the line that is held.
+fn answer(sheet: Sheet, line: &[u8], held: usize, out: &mut [u8], at: usize) -> Stepped
+    requires { ⌜ HeldIn (now line) held ⌝ }
+    ensures { λ r. ⌜ Answers sheet (spelled (take held (now (line .entry)))) (now (out .entry)) at (now (out .exit)) r ⌝ }
+{
+    session::step(sheet, &line[..held], out, at)
+}
+
 // Takes a piece up to its first line feed, which ends a line and has it answered, or to its end.
 fn feed_line(
     sheet: Sheet,
@@ -75,14 +88,14 @@ fn feed_line(
     out: &mut [u8],
     at: usize,
 ) -> Fed
-    requires { ⌜ held ≤ length (now line) ⌝ }
-    ensures { λ r. ⌜ Lines sheet (now (line .entry)) held (now (input .entry)) (now (out .entry)) at (now (out .exit)) (now (line .exit)) r ⌝ }
+    requires { ⌜ HeldIn (now line) held ⌝ }
+    ensures { λ r. ⌜ LineTaken sheet (now (line .entry)) (take held (now (line .entry))) (now (input .entry)) (now (out .entry)) at (now (out .exit)) (now (line .exit)) r ⌝ }
 {
     let run = take_run(line, held, input);
     let n = run.held;
     if run.used < input.len() {
         let used = run.used + 1;
-        let s = session::step(sheet, &line[..n], out, at);
+        let s = answer(sheet, line, n, out, at);
         let after = s.sheet;
         return Fed {
             sheet: after,
@@ -108,8 +121,8 @@ fn feed_lines(
     out: &mut [u8],
     at: usize,
 ) -> Fed
-    requires { ⌜ held ≤ length (now line) ⌝ }
-    ensures { λ r. ⌜ Feeds sheet (now (line .entry)) held (now (input .entry)) (now (out .entry)) at (now (out .exit)) (now (line .exit)) r ⌝ }
+    requires { ⌜ HeldIn (now line) held ⌝ }
+    ensures { λ r. ⌜ Feeds sheet (now (line .entry)) (take held (now (line .entry))) (now (input .entry)) (now (out .entry)) at (now (out .exit)) (now (line .exit)) r ⌝ }
 {
     let mut fed = Fed {
         sheet,
@@ -132,30 +145,30 @@ fn feed_lines(
 }
 
 // Takes a piece of a script, of which a line's first `held` characters have come: answers each line that ends in it, at a place of the
-// buffer, and holds what comes after them. Stops early where the buffer has no room for another answer: no answer is cut.
+// buffer, and holds what comes after them. Stops early where the buffer has no room for another answer: no answer is cut. Where `held`
+// is more than the line has, all of the line is held.
 pub fn feed(
     sheet: Sheet,
-    line: &mut [u8],
+    line: &mut [u8; LINE_ROOM],
     held: usize,
     input: &[u8],
     out: &mut [u8],
     at: usize,
 ) -> Fed
-    ensures { λ r. ⌜ Feeds sheet (now (line .entry)) held (now (input .entry)) (now (out .entry)) at (now (out .exit)) (now (line .exit)) r ⌝ }
+    ensures { λ r. ⌜ Feeds sheet (now (line .entry)) (take held (now (line .entry))) (now (input .entry)) (now (out .entry)) at (now (out .exit)) (now (line .exit)) r ⌝ }
 {
-    let n = text::smaller(held, line.len());
+    let n = text::smaller(held, LINE_ROOM);
     feed_lines(sheet, line, n, input, out, at)
 }
 
 // The end of the input: answers the line that is held, if any.
-pub fn last(sheet: Sheet, line: &[u8], held: usize, out: &mut [u8], at: usize) -> usize
-    ensures { λ r. ⌜ Put (now (out .entry)) at (lastText sheet (take held (now (line .entry)))) (now (out .exit)) r ⌝ }
-    ensures { λ r. ⌜ length (lastText sheet (take held (now (line .entry)))) ≤ mostText ⌝ }
+pub fn last(sheet: Sheet, line: &[u8; LINE_ROOM], held: usize, out: &mut [u8], at: usize) -> usize
+    ensures { λ r. ⌜ Ends sheet (take held (now (line .entry))) (now (out .entry)) at (now (out .exit)) r ⌝ }
 {
-    let n = text::smaller(held, line.len());
+    let n = text::smaller(held, LINE_ROOM);
     if n == 0 {
         return at;
     }
-    let s = session::step(sheet, &line[..n], out, at);
+    let s = answer(sheet, line, n, out, at);
     s.at
 }

@@ -60,18 +60,18 @@ put-done s i g p = rw (take-all i s g) at p
 pub record Going (o₀ : List ℕ) (a₀ : ℕ) (whole : List ℕ) (o : List ℕ) (a : ℕ) (rest : List ℕ) : Type 0 where
   pub written : List ℕ
   pub put : Put o₀ a₀ written o a
-  pub goes : written ++ rest ≡ whole
+  pub together : written ++ rest ≡ whole
 
 pub going-start : (o : List ℕ) (a : ℕ) (w : List ℕ) → a ≤ 18446744073709551615 → length o ≤ 18446744073709551615 → Going o a w o a w
-going-start o a w h g = record { written = []; put = put-none o a h g; goes = refl }
+going-start o a w h g = record { written = []; put = put-none o a h g; together = refl }
 
 pub going-on : {o₀ w o o₁ t r : List ℕ} {a₀ a a₁ : ℕ} → Going o₀ a₀ w o a (t ++ r) → Put o a t o₁ a₁ → Going o₀ a₀ w o₁ a₁ r
 going-on {t = t} {r = r} g p =
-    record { written = g .written ++ t; put = join (g .put) p; goes = append-assoc (g .written) t r ∙ g .goes }
+    record { written = g .written ++ t; put = join (g .put) p; together = append-assoc (g .written) t r ∙ g .together }
 
 pub going-end : {o₀ w o : List ℕ} {a₀ a : ℕ} → Going o₀ a₀ w o a [] → Put o₀ a₀ w o a
 going-end {w = w} g =
-    let e : g .written ≡ w = sym (append-nil (g .written)) ∙ g .goes in
+    let e : g .written ≡ w = sym (append-nil (g .written)) ∙ g .together in
     rw e at (g .put)
 
 -- ---- a text of so many characters at the most, and another behind it

@@ -6,11 +6,11 @@ use borrow.Author.Needs.{needs}
 use Rattle.calls.proofs.by_code.Statement.{statement}
 use Rattle.calls.proofs.by_code.Tie as tie
 
-load-of-requires : tie.Need-load-of-requires
-load-of-requires c κs = search needs
+load-call-requires : tie.Need-load-call-requires
+load-call-requires c κs = search needs
 
-cut-of-requires : tie.Need-cut-of-requires
-cut-of-requires c κs = search needs
+cut-call-requires : tie.Need-cut-call-requires
+cut-call-requires c κs = search needs
 
 of-length-requires : tie.Need-of-length-requires
 of-length-requires c κs = search needs
@@ -24,19 +24,19 @@ of-length-requires-3 c κs = search needs
 of-length-requires-4 : tie.Need-of-length-requires-4
 of-length-requires-4 c κs = search needs
 
-fit-of-requires : tie.Need-fit-of-requires
-fit-of-requires c κs = search needs
+fit-call-requires : tie.Need-fit-call-requires
+fit-call-requires c κs = search needs
 
-contents-of-requires : tie.Need-contents-of-requires
-contents-of-requires c κs = search needs
+contents-call-requires : tie.Need-contents-call-requires
+contents-call-requires c κs = search needs
 
 returns : tie.Need-returns
 unfolding byCode
-returns c = (c .load-of .ensures) ∙ rw ((c .before .match .keys1))
+returns c = (c .load-call .ensures) ∙ rw ((c .before .match .keys1))
 
 returns-2 : tie.Need-returns-2
 unfolding byCode
-returns-2 c = (c .cut-of .ensures) ∙ rw ((c .before .match .keys2))
+returns-2 c = (c .cut-call .ensures) ∙ rw ((c .before .match .keys2))
 
 returns-3 : tie.Need-returns-3
 unfolding byCode
@@ -56,11 +56,11 @@ returns-6 c = (c .of-length4 .ensures) ∙ rw ((c .before .match .keys6))
 
 returns-7 : tie.Need-returns-7
 unfolding byCode
-returns-7 c = (c .fit-of .ensures) ∙ rw ((c .before .match .keys7))
+returns-7 c = (c .fit-call .ensures) ∙ rw ((c .before .match .keys7))
 
 returns-8 : tie.Need-returns-8
 unfolding byCode
-returns-8 c = (c .contents-of .ensures) ∙ rw ((c .before .match .keys8))
+returns-8 c = (c .contents-call .ensures) ∙ rw ((c .before .match .keys8))
 
 returns-9 : tie.Need-returns-9
 unfolding byCode
@@ -71,14 +71,14 @@ pub by-code-spec : {M : Type 1} → statement M
 by-code-spec =
     tie.close
     (tie.spec
-    load-of-requires
-    cut-of-requires
+    load-call-requires
+    cut-call-requires
     of-length-requires
     of-length-requires-2
     of-length-requires-3
     of-length-requires-4
-    fit-of-requires
-    contents-of-requires
+    fit-call-requires
+    contents-call-requires
     returns
     returns-2
     returns-3

@@ -1,26 +1,25 @@
--- `main`: read by read, the sheet and the held line are those after all that came (`Running`), and the reads run out. Assumes nothing.
+-- `main`: read by read, the sheet and the held line are those after all that came (`Taken`), and the reads run out. Assumes nothing.
 use Rattle.focusdesk.proofs.Laws as laws
-use Rattle.focusdesk.proofs.Laws.{Running}
 use native.Mathlib.Omega.{arith}
 use borrow.Author.Needs.{needs}
 use Prim.Native.Nat.{ℕ, _≤_}
 use mathlib.Core.List.{List, []}
 use lib.ListN.{length}
-use Rattle.session.specs.Lines.{mostText}
+use Rattle.session.specs.Answering.{mostText}
+use Rattle.sheet.specs.Sheet.{freshSheet}
+use Rattle.stream.specs.Stream.{Taken}
+use Rattle.stream.proofs.Laws.{held-long}
 use Rattle.focusdesk.proofs.main.Statement.{statement}
 use Rattle.focusdesk.proofs.main.Tie as tie
 
 abbrev Inv-loop : tie.InvT-loop
-Inv-loop line₀ input₀ out₀ after₀ reads₀ line input out after reads = (all : List ℕ) × Running all line after × (mostText ≤ length out)
+Inv-loop line₀ input₀ out₀ after₀ reads₀ line input out after reads = (all : List ℕ) × Taken freshSheet line₀ [] all (after .sheet) line (after .held) × (mostText ≤ length out)
 
 abbrev μ-loop : tie.MeasureT-loop
 μ-loop line₀ input₀ out₀ after₀ reads₀ line input out after reads = reads
 
 no-line-requires : tie.Need-no-line-requires Inv-loop μ-loop
 no-line-requires c κs = tt
-
-slice-aggregate-line : tie.Need-slice-aggregate-line Inv-loop μ-loop
-slice-aggregate-line c = search needs
 
 large-buffer-requires : tie.Need-large-buffer-requires Inv-loop μ-loop
 large-buffer-requires c κs = tt
@@ -38,13 +37,16 @@ new-requires : tie.Need-new-requires Inv-loop μ-loop
 new-requires c κs = tt
 
 loop-holds : tie.Need-loop-holds Inv-loop μ-loop
-loop-holds c = ([], laws.running-none _ _ (c .new .ensures) (c .before .before .before .before .before .before .no-line .ensures), omega (arith, (c .before .before .large-buffer2 .ensures)))
+loop-holds c = ([], laws.running-none _ _ (c .new .ensures), omega (arith, (c .before .before .large-buffer2 .ensures)))
 
 read-requires : tie.Need-read-requires Inv-loop μ-loop
 read-requires c κs = tt
 
+was-interrupted-requires : tie.Need-was-interrupted-requires Inv-loop μ-loop
+was-interrupted-requires c κs = tt
+
 after-read-requires : tie.Need-after-read-requires Inv-loop μ-loop
-after-read-requires c κs = (c .before .before .before .before .before .before .before .before .before .loop .inv .2)
+after-read-requires c κs = ((c .before .before .before .before .before .before .before .before .before .before .loop .inv .2), held-long (c .before .before .before .before .before .before .before .before .before .before .loop .inv .1 .holding))
 
 returns : tie.Need-returns Inv-loop μ-loop
 returns c = tt
@@ -56,7 +58,7 @@ loop-less : tie.Need-loop-less Inv-loop μ-loop
 loop-less c = omega arith
 
 loop-again : tie.Need-loop-again Inv-loop μ-loop
-loop-again c = (_, laws.running-more _ _ _ _ _ _ (c .before .before .before .before .before .before .before .before .before .before .before .before .before .before .before .before .loop .inv .1) (c .before .before .before .before .before .before .after-read .ensures) (c .if1 .left), omega (arith, (c .before .before .before .before .before .before .before .before .before .before .before .before .before .before .before .before .loop .inv .2), (c .before .before .before .before .before .before .after-read .kept .1 .1 .1 .1 .1)))
+loop-again c = (_, laws.running-more _ _ _ _ _ _ _ (c .before .before .before .before .before .before .before .before .before .before .before .before .before .before .before .loop .inv .1) (c .before .before .before .before .after-read .ensures) (c .if1 .left), omega (arith, (c .before .before .before .before .before .before .before .before .before .before .before .before .before .before .before .loop .inv .2), (c .before .before .before .before .after-read .kept .1 .1 .1 .1 .1 .1)))
 
 returns-2 : tie.Need-returns-2 Inv-loop μ-loop
 returns-2 c = tt
@@ -68,7 +70,6 @@ main-spec =
     Inv-loop
     μ-loop
     no-line-requires
-    slice-aggregate-line
     large-buffer-requires
     slice-aggregate-input
     large-buffer-requires-2
@@ -76,6 +77,7 @@ main-spec =
     new-requires
     loop-holds
     read-requires
+    was-interrupted-requires
     after-read-requires
     returns
     sub-reads

@@ -1,6 +1,6 @@
 -- `put_listing`: without room the buffer is kept; else the points are written behind the head's places, and then the head. Assumes nothing.
 use native.Mathlib.Omega.{arith}
-use Rattle.focuspoints.specs.Buffer.{laidNumbers}
+use Rattle.focuspoints.specs.Inside.{laidNumbers}
 use Rattle.focuspoints.proofs.Buffers as buffers
 use borrow.Author.Needs.{needs}
 use Rattle.focuspoints.proofs.put_listing.Statement.{statement}

@@ -5,7 +5,7 @@ use mathlib.Core.Path.{_≡_, refl, sym, ap, _∙_}
 use Prim.Native.Nat.{ℕ, _+_, _≤_, _-_}
 use lib.ListN.{length, drop}
 use native.Mathlib.Nat.{add-zero}
-use Rattle.script.specs.Parts.{feedAt}
+use Rattle.script.specs.Inside.{feedAt}
 use Rattle.script.proofs.line_end.Statement.{statement}
 use Rattle.script.proofs.line_end.Tie as tie
 

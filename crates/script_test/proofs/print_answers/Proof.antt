@@ -10,7 +10,7 @@ use lib.Seq.{sets, length-sets, length-take-le}
 use native.Mathlib.Omega.{arith}
 use borrow.Author.Tests.{leb-true}
 use Rattle.laws.proofs.Tests.{by-bool}
-use Rattle.script.specs.Script.{answeredWith, bufferWith, hasRoom}
+use Rattle.script.specs.Script.{answeredWith, bufferWith, roomFor}
 use Rattle.script.specs.declared.Answered.{Answered}
 use Rattle.script.specs.declared.Answered.the-variants.{Short, Written}
 use borrow.Author.Needs.{needs}
@@ -26,18 +26,18 @@ fits : (t o o₁ : List ℕ) (r : Answered) (n : ℕ) → r ≡ answeredWith t o
 unfolding answeredWith bufferWith
 fits t o o₁ r n e f w =
     ⊎-elim
-    (λ (h : hasRoom t o ≡ true).
+    (λ (h : roomFor t o ≡ true).
     let k : Written n ≡ Written (length t) = sym w ∙ e ∙ rw h in
     let l : n ≡ length t = cc in
     let m : length t ≤ length o = leb-true (length t) (length o) (second (ltb (length t) 18446744073709551615) (leb (length t) (length o)) h) in
     let g : o₁ ≡ sets o 0 t = f ∙ rw h in
     let p : length o₁ ≡ length o = ap length g ∙ length-sets o 0 t in
     omega arith)
-    (λ (h : hasRoom t o ≡ false).
+    (λ (h : roomFor t o ≡ false).
     let k : Written n ≡ Short = sym w ∙ e ∙ rw h in
     let y : _≡_ {A = ℕ} 0 1 = cc in
     absurd (omega arith))
-    (by-bool (hasRoom t o))
+    (by-bool (roomFor t o))
 
 answer-requires : tie.Need-answer-requires
 answer-requires c κs = search needs

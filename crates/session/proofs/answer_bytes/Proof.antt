@@ -1,8 +1,7 @@
 -- `answer_bytes`: by cases on the call. Assumes nothing.
 use mathlib.Core.Path.{ap}
 use Rattle.session.proofs.Texts as texts
-use Rattle.journal.specs.Calls.{afterEdit, sheetStep}
-use Rattle.session.specs.Lines.{spelledBy}
+use Rattle.journal.specs.SheetCalls.{afterEdit, sheetStep}
 use borrow.Author.Needs.{needs}
 use Rattle.session.proofs.answer_bytes.Statement.{statement}
 use Rattle.session.proofs.answer_bytes.Tie as tie
@@ -83,59 +82,59 @@ same-length : tie.Need-same-length
 same-length c = search needs
 
 returns : tie.Need-returns
-returns c = texts.by-call _ _ _ _ (c .before .before .before .before .before .before .call-of .ensures) (ap (spelledBy _) (c .before .before .before .before .enum-told .given .1)) (c .before .before .answer-malformed .ensures)
+returns c = texts.by-call _ _ _ _ (c .before .before .before .before .enum-told .given .1) (c .before .before .before .before .before .before .call-of .ensures) (c .before .before .answer-malformed .ensures)
 
 same-length-2 : tie.Need-same-length-2
 same-length-2 c = search needs
 
 returns-2 : tie.Need-returns-2
-returns-2 c = texts.by-call _ _ _ _ (c .before .before .before .before .before .before .before .call-of .ensures) (ap (spelledBy _) (c .before .before .before .before .before .raw .given .1)) (c .before .before .answer-load .ensures)
+returns-2 c = texts.by-call _ _ _ _ (c .before .before .before .before .before .raw .given .1) (c .before .before .before .before .before .before .before .call-of .ensures) (c .before .before .answer-load .ensures)
 
 same-length-3 : tie.Need-same-length-3
 same-length-3 c = search needs
 
 returns-3 : tie.Need-returns-3
 unfolding sheetStep
-returns-3 c = texts.by-call _ _ _ _ (c .before .before .before .before .before .before .before .before .call-of .ensures) (ap (spelledBy _) (c .before .before .before .before .before .before .left .given .1)) (texts.answered-edit _ _ _ (ap afterEdit (c .before .before .before .before .cut .ensures)) (c .before .before .after-edit .ensures))
+returns-3 c = texts.by-call _ _ _ _ (c .before .before .before .before .before .before .left .given .1) (c .before .before .before .before .before .before .before .before .call-of .ensures) (texts.answered-edit _ _ (c .before .before .before .before .cut .result) (ap afterEdit (c .before .before .before .before .cut .ensures)) (c .before .before .after-edit .ensures))
 
 same-length-4 : tie.Need-same-length-4
 same-length-4 c = search needs
 
 returns-4 : tie.Need-returns-4
 unfolding sheetStep
-returns-4 c = texts.by-call _ _ _ _ (c .before .before .before .before .before .before .before .call-of .ensures) (ap (spelledBy _) (c .before .before .before .before .before .enum-told2 .given .1)) (texts.answered-edit _ _ _ (ap afterEdit (c .before .before .before .before .turn .ensures)) (c .before .before .after-edit2 .ensures))
+returns-4 c = texts.by-call _ _ _ _ (c .before .before .before .before .before .enum-told2 .given .1) (c .before .before .before .before .before .before .before .call-of .ensures) (texts.answered-edit _ _ (c .before .before .before .before .turn .result) (ap afterEdit (c .before .before .before .before .turn .ensures)) (c .before .before .after-edit2 .ensures))
 
 same-length-5 : tie.Need-same-length-5
 same-length-5 c = search needs
 
 returns-5 : tie.Need-returns-5
 unfolding sheetStep
-returns-5 c = texts.by-call _ _ _ _ (c .before .before .before .before .before .before .before .call-of .ensures) (ap (spelledBy _) (c .before .before .before .before .before .enum-told3 .given .1)) (texts.answered-edit _ _ _ (ap afterEdit (c .before .before .before .before .mirror .ensures)) (c .before .before .after-edit3 .ensures))
+returns-5 c = texts.by-call _ _ _ _ (c .before .before .before .before .before .enum-told3 .given .1) (c .before .before .before .before .before .before .before .call-of .ensures) (texts.answered-edit _ _ (c .before .before .before .before .mirror .result) (ap afterEdit (c .before .before .before .before .mirror .ensures)) (c .before .before .after-edit3 .ensures))
 
 same-length-6 : tie.Need-same-length-6
 same-length-6 c = search needs
 
 returns-6 : tie.Need-returns-6
 unfolding sheetStep
-returns-6 c = texts.by-call _ _ _ _ (c .before .before .before .before .before .before .before .call-of .ensures) (ap (spelledBy _) (c .before .before .before .before .before .enum-told4 .given .1)) (texts.answered-edit _ _ _ (ap afterEdit (c .before .before .before .before .back .ensures)) (c .before .before .after-edit4 .ensures))
+returns-6 c = texts.by-call _ _ _ _ (c .before .before .before .before .before .enum-told4 .given .1) (c .before .before .before .before .before .before .before .call-of .ensures) (texts.answered-edit _ _ (c .before .before .before .before .back .result) (ap afterEdit (c .before .before .before .before .back .ensures)) (c .before .before .after-edit4 .ensures))
 
 same-length-7 : tie.Need-same-length-7
 same-length-7 c = search needs
 
 returns-7 : tie.Need-returns-7
-returns-7 c = texts.by-call _ _ _ _ (c .before .before .before .before .before .before .call-of .ensures) (ap (spelledBy _) (c .before .before .before .before .enum-told5 .given .1)) (c .before .before .answer-list .ensures)
+returns-7 c = texts.by-call _ _ _ _ (c .before .before .before .before .enum-told5 .given .1) (c .before .before .before .before .before .before .call-of .ensures) (c .before .before .answer-list .ensures)
 
 same-length-8 : tie.Need-same-length-8
 same-length-8 c = search needs
 
 returns-8 : tie.Need-returns-8
-returns-8 c = texts.by-call _ _ _ _ (c .before .before .before .before .before .before .before .call-of .ensures) (ap (spelledBy _) (c .before .before .before .before .before .size .given .1)) (c .before .before .answer-fit .ensures)
+returns-8 c = texts.by-call _ _ _ _ (c .before .before .before .before .before .size .given .1) (c .before .before .before .before .before .before .before .call-of .ensures) (c .before .before .answer-fit .ensures)
 
 same-length-9 : tie.Need-same-length-9
 same-length-9 c = search needs
 
 returns-9 : tie.Need-returns-9
-returns-9 c = texts.by-call _ _ _ _ (c .before .before .before .before .before .before .before .call-of .ensures) (ap (spelledBy _) (c .before .before .before .before .before .enum-told6 .given .1)) (rw (c .before .before .before .before .contents-block .ensures) at (c .before .before .answer-contents .ensures))
+returns-9 c = texts.by-call _ _ _ _ (c .before .before .before .before .before .enum-told6 .given .1) (c .before .before .before .before .before .before .before .call-of .ensures) (rw (c .before .before .before .before .contents-block .ensures) at (c .before .before .answer-contents .ensures))
 
 pub answer-bytes-spec : {M : Type 1} → statement M
 answer-bytes-spec =

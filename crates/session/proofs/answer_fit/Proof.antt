@@ -14,13 +14,13 @@ fit-requires : tie.Need-fit-requires
 fit-requires c κs = search needs
 
 put-list-requires : tie.Need-put-list-requires
-put-list-requires c κs = texts.few-fit _ _ _ _ ((c .before .before .before .before .fit .ensures .0))
+put-list-requires c κs = texts.few-fit _ _ _ (c .before .before .before .before .fit .result) (c .before .before .before .before .fit .ensures .0)
 
 same-length : tie.Need-same-length
 same-length c = search needs
 
 returns : tie.Need-returns
-returns c = texts.answered-fit _ _ _ _ _ (c .before .before .before .before .before .before .before .before .before .before .before .lent-buffer .ensures) ((c .before .before .before .before .before .before .before .before .fit .ensures .0)) ((c .before .before .before .before .before .before .before .before .fit .ensures .1)) (c .before .before .before .put-list .ensures)
+returns c = texts.answered-fit _ _ (c .before .before .before .before .before .before .before .before .fit .result) _ _ (c .before .before .before .before .before .before .before .before .before .before .before .lent-buffer .ensures) ((c .before .before .before .before .before .before .before .before .fit .ensures .0)) ((c .before .before .before .before .before .before .before .before .fit .ensures .1)) (c .before .before .before .put-list .ensures)
 
 pub answer-fit-spec : {M : Type 1} → statement M
 answer-fit-spec =

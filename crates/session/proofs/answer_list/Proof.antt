@@ -14,13 +14,13 @@ list-requires : tie.Need-list-requires
 list-requires c κs = search needs
 
 put-list-requires : tie.Need-put-list-requires
-put-list-requires c κs = texts.few-list _ _ _ ((c .before .before .before .before .list .ensures .0))
+put-list-requires c κs = texts.few-list _ _ (c .before .before .before .before .list .result) (c .before .before .before .before .list .ensures .0)
 
 same-length : tie.Need-same-length
 same-length c = search needs
 
 returns : tie.Need-returns
-returns c = texts.answered-list _ _ _ _ (c .before .before .before .before .before .before .before .before .before .before .before .lent-buffer .ensures) ((c .before .before .before .before .before .before .before .before .list .ensures .0)) ((c .before .before .before .before .before .before .before .before .list .ensures .1)) (c .before .before .before .put-list .ensures)
+returns c = texts.answered-list _ (c .before .before .before .before .before .before .before .before .list .result) _ _ (c .before .before .before .before .before .before .before .before .before .before .before .lent-buffer .ensures) ((c .before .before .before .before .before .before .before .before .list .ensures .0)) ((c .before .before .before .before .before .before .before .before .list .ensures .1)) (c .before .before .before .put-list .ensures)
 
 pub answer-list-spec : {M : Type 1} → statement M
 answer-list-spec =

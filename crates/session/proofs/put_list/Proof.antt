@@ -1,9 +1,7 @@
 -- `put_list`: by cases on the answer. Assumes nothing.
 use mathlib.Core.Path.{refl}
-use native.Mathlib.Omega.{arith}
 use Rattle.session.proofs.Texts as texts
-use Rattle.listing.specs.Listing.{listNumber}
-use Rattle.listing.specs.declared.ListAnswer.the-variants.{Empty, ZeroBox, Short}
+use Rattle.sheet.specs.declared.listing.ListAnswer.the-variants.{Empty, ZeroBox, Short}
 use borrow.Author.Needs.{needs}
 use Rattle.session.proofs.put_list.Statement.{statement}
 use Rattle.session.proofs.put_list.Tie as tie
@@ -36,22 +34,19 @@ same-length : tie.Need-same-length
 same-length c = search needs
 
 returns : tie.Need-returns
-unfolding listNumber
-returns c = texts.list-no _ Empty _ 7 (c .before .before .before .before .enum-told .given .1) refl (λ z. omega arith) (c .before .before .put-no .ensures)
+returns c = texts.list-no _ Empty _ 7 (c .before .before .before .before .enum-told .given .1) refl (c .before .before .put-no .ensures)
 
 same-length-2 : tie.Need-same-length-2
 same-length-2 c = search needs
 
 returns-2 : tie.Need-returns-2
-unfolding listNumber
-returns-2 c = texts.list-no _ ZeroBox _ 12 (c .before .before .before .before .enum-told2 .given .1) refl (λ z. omega arith) (c .before .before .put-no2 .ensures)
+returns-2 c = texts.list-no _ ZeroBox _ 12 (c .before .before .before .before .enum-told2 .given .1) refl (c .before .before .put-no2 .ensures)
 
 same-length-3 : tie.Need-same-length-3
 same-length-3 c = search needs
 
 returns-3 : tie.Need-returns-3
-unfolding listNumber
-returns-3 c = texts.list-no _ Short _ 13 (c .before .before .before .before .enum-told3 .given .1) refl (λ z. omega arith) (c .before .before .put-no3 .ensures)
+returns-3 c = texts.list-no _ Short _ 13 (c .before .before .before .before .enum-told3 .given .1) refl (c .before .before .put-no3 .ensures)
 
 same-length-4 : tie.Need-same-length-4
 same-length-4 c = search needs

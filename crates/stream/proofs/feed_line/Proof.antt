@@ -1,9 +1,7 @@
--- `feed_line`: a run of characters, and where a feed ends it one step of the sheet. Assumes nothing.
+-- `feed_line`: a run of characters, and where a feed ends it one answer. Assumes nothing.
 use Rattle.stream.proofs.Laws as laws
 use native.Mathlib.Omega.{arith}
 use borrow.Author.Needs.{needs}
-use mathlib.Core.Path.{sym}
-use lib.Seq.{length-take-le}
 use Rattle.stream.proofs.feed_line.Statement.{statement}
 use Rattle.stream.proofs.feed_line.Tie as tie
 
@@ -11,31 +9,25 @@ take-run-requires : tie.Need-take-run-requires
 take-run-requires c κs = search needs
 
 add-used : tie.Need-add-used
-add-used c = omega arith
+add-used c = search needs
 
-slice-reshare-prefix-step : tie.Need-slice-reshare-prefix-step
-slice-reshare-prefix-step c = search needs
-
-slice-aggregate-step : tie.Need-slice-aggregate-step
-slice-aggregate-step c = sym (length-take-le _ _ ((c .before .before .before .before .before .before .take-run .ensures .quiet .few)))
-
-step-requires : tie.Need-step-requires
-step-requires c κs = search needs
+answer-requires : tie.Need-answer-requires
+answer-requires c κs = laws.still-held (c .before .before .before .before .before .before .before .take-run .ensures .chars .holding) (c .before .before .before .before .before .before .before .before .before .before .before .before .pre .0)
 
 same-length : tie.Need-same-length
-same-length c = (c .before .before .before .before .before .before .before .before .before .before .before .take-run .ensures .quiet .long)
+same-length c = laws.same-length (c .before .before .before .before .before .before .before .before .before .before .before .take-run .ensures .chars .holding)
 
 same-length-2 : tie.Need-same-length-2
 same-length-2 c = search needs
 
 returns : tie.Need-returns
-returns c = laws.line-ends _ _ _ (c .before .before .before .before .before .before .before .if1 .taken) ((c .before .before .before .before .before .before .before .before .before .before .before .take-run .ensures .ends) (c .before .before .before .before .before .before .before .if1 .taken)) ((c .before .before .before .before .before .before .before .before .before .before .before .take-run .ensures .quiet)) (c .before .before .before .step .ensures)
+returns c = laws.line-ends _ _ _ (c .before .before .before .before .before .before .before .if1 .taken) ((c .before .before .before .before .before .before .before .before .before .before .before .take-run .ensures .at-feed) (c .before .before .before .before .before .before .before .if1 .taken)) (c .before .before .before .before .before .before .before .before .before .before .before .take-run .ensures .chars) (c .before .before .before .answer .ensures)
 
 same-length-3 : tie.Need-same-length-3
-same-length-3 c = (c .before .before .before .before .take-run .ensures .quiet .long)
+same-length-3 c = laws.same-length (c .before .before .before .before .take-run .ensures .chars .holding)
 
 returns-2 : tie.Need-returns-2
-returns-2 c = laws.line-goes-on _ _ _ _ _ ((c .before .before .before .before .take-run .ensures .part)) (c .if1 .left) ((c .before .before .before .before .take-run .ensures .quiet)) (omega arith) (omega arith)
+returns-2 c = laws.line-goes-on _ _ _ _ _ (c .before .before .before .before .take-run .ensures .used-part) (c .if1 .left) (c .before .before .before .before .take-run .ensures .chars) (omega arith) (omega arith)
 
 pub feed-line-spec : {M : Type 1} → statement M
 feed-line-spec =
@@ -43,9 +35,7 @@ feed-line-spec =
     (tie.spec
     take-run-requires
     add-used
-    slice-reshare-prefix-step
-    slice-aggregate-step
-    step-requires
+    answer-requires
     same-length
     same-length-2
     returns

@@ -2,21 +2,20 @@
 use mathlib.Core.Path.{_≡_}
 use mathlib.Core.List.{List}
 use lib.ListN.{set, replicate}
-use Rattle.geometry.specs.declared.Size.{Size}
-use Rattle.afinfo.specs.declared.focus.FocusAreaMode.{FocusAreaMode}
-use Rattle.fitting.specs.declared.focus.FocusPoint.{FocusPoint}
-use Rattle.load.specs.Load.{laidOut, places, noPoint, alone}
-use Rattle.load.specs.declared.focus.FocusOrigin.the-variants.{Recorded}
-use Rattle.load.specs.declared.focus.FocusAnswer.the-variants.{Placed}
-use Rattle.load.specs.declared.focus.FocusPoints.{FocusPoints}
+use Rattle.reading.specs.declared.geometry.Size.{Size}
+use Rattle.reading.specs.declared.focus.FocusAreaMode.{FocusAreaMode}
+use Rattle.placing.specs.declared.focus.FocusPoint.{FocusPoint}
+use Rattle.placing.specs.Load.{loadNumber, focusMeans, laidOut, places, noPoint, alone}
+use Rattle.placing.specs.declared.load.FocusOrigin.the-variants.{Recorded}
+use Rattle.placing.specs.declared.load.FocusAnswer.the-variants.{Accepted}
 use borrow.Author.Needs.{needs}
 use Rattle.placing.proofs.nikon.alone_in.Statement.{statement}
 use Rattle.placing.proofs.nikon.alone_in.Tie as tie
 
 one : (f : Size) (p : FocusPoint) (m : FocusAreaMode) (blank : List FocusPoint) → blank ≡ replicate 39 noPoint →
-    _≡_ {A = FocusPoints}
+    focusMeans
     (record {
-      answer = Placed;
+      answer = Accepted;
       frame = f;
       points = set blank 0 p;
       count = 1;
@@ -24,8 +23,8 @@ one : (f : Size) (p : FocusPoint) (m : FocusAreaMode) (blank : List FocusPoint) 
       «area_mode» = m;
       origin = Recorded;
     })
-    (laidOut (alone f p m))
-unfolding laidOut places
+    ≡ laidOut (alone f p m)
+unfolding laidOut places loadNumber
 one f p m blank e = rw e
 
 no-places-requires : tie.Need-no-places-requires

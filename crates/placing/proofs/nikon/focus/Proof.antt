@@ -1,43 +1,32 @@
 -- `nikon::focus`: the 39 places of each answer of `located`. Assumes nothing.
-use mathlib.Core.Path.{_≡_, refl}
+use mathlib.Core.Path.{_≡_}
 use Prim.Native.Nat.{ℕ}
-use Rattle.tiff.specs.Outcome.{Outcome, accepted}
-use Rattle.geometry.specs.declared.Size.{Size}
-use Rattle.afinfo.specs.declared.focus.FocusAreaMode.{FocusAreaMode}
-use Rattle.fitting.specs.declared.focus.FocusPoint.{FocusPoint}
-use Rattle.load.specs.Load.{Focus, laidOut, refusedBy, refusalNumber, refusalOf, alone}
-use Rattle.named.specs.Named.{placedIn}
-use Rattle.placing.specs.Focus.{locatedMeans}
-use Rattle.load.specs.declared.focus.FocusPoints.{FocusPoints}
-use Rattle.load.specs.declared.focus.Refusal.{Refusal}
-use Rattle.load.specs.declared.focus.Refusal.the-variants.{Unreadable, Missing, Manual, Unusable, Unplaced, Unnamed}
+use Rattle.reading.specs.Outcome.{Outcome, refused, accepted}
+use Rattle.reading.specs.declared.geometry.Size.{Size}
+use Rattle.reading.specs.declared.focus.FocusAreaMode.{FocusAreaMode}
+use Rattle.placing.specs.declared.focus.FocusPoint.{FocusPoint}
+use Rattle.placing.specs.Load.{Focus, focusMeans, laidOut, refusalNumber, alone}
+use Rattle.placing.specs.Named.{placedIn}
+use Rattle.placing.specs.Inside.{locatedMeans}
+use Rattle.placing.specs.declared.load.FocusPoints.{FocusPoints}
+use Rattle.placing.specs.declared.load.Refusal.{Refusal}
 use Rattle.placing.specs.declared.nikon.Located.{Located}
 use Rattle.placing.specs.declared.nikon.Located.the-variants.{Refused, Position, Names}
-use Rattle.named.specs.declared.Window.{Window}
--- a refusal is the one that has its number
+use Rattle.placing.specs.declared.named.Window.{Window}
 use borrow.Author.Needs.{needs}
 use Rattle.placing.proofs.nikon.focus.Statement.{statement}
 use Rattle.placing.proofs.nikon.focus.Tie as tie
 
-of-number : (why : Refusal) → refusalOf (refusalNumber why) ≡ why
-unfolding refusalOf refusalNumber
-of-number Unreadable = refl
-of-number Missing = refl
-of-number Manual = refl
-of-number Unusable = refl
-of-number Unplaced = refl
-of-number Unnamed = refl
-
 module _ (o : Outcome Focus) (x : Located) (ex : locatedMeans x ≡ o) (v : FocusPoints) where
-  nowhere : (why : Refusal) → x ≡ Refused why → v ≡ refusedBy why → v ≡ laidOut o
-  unfolding laidOut
-  nowhere why e ev = rw (← ex, e, of-number why) ev
+  nowhere : (why : Refusal) → x ≡ Refused why → focusMeans v ≡ laidOut (refused (refusalNumber why)) → focusMeans v ≡ laidOut o
+  nowhere why e ev = rw (← ex, e) ev
 
-  position : (f : Size) (p : FocusPoint) (m : FocusAreaMode) → x ≡ Position f p m → v ≡ laidOut (alone f p m) → v ≡ laidOut o
+  position : (f : Size) (p : FocusPoint) (m : FocusAreaMode) → x ≡ Position f p m → focusMeans v ≡ laidOut (alone f p m)
+      → focusMeans v ≡ laidOut o
   position f p m e ev = rw (← ex, e) ev
 
   names : (w : Window) (primary mask : ℕ) (m : FocusAreaMode) → x ≡ Names w primary mask m →
-      v ≡ laidOut (placedIn (accepted w) primary mask m) → v ≡ laidOut o
+      focusMeans v ≡ laidOut (placedIn (accepted w) primary mask m) → focusMeans v ≡ laidOut o
   names w primary mask m e ev = rw (← ex, e) ev
 
 locate-requires : tie.Need-locate-requires

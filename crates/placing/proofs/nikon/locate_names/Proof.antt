@@ -2,32 +2,32 @@
 use Prim.Native.Nat.{ℕ}
 use mathlib.Core.Path.{_≡_}
 use mathlib.Core.List.{List}
-use Rattle.geometry.specs.declared.OptionalSize.{OptionalSize}
-use Rattle.afinfo.specs.declared.focus.FocusAreaMode.{FocusAreaMode}
-use Rattle.afinfo.specs.declared.NamedPoints.{NamedPoints}
-use Rattle.afinfo.specs.declared.NamedPoints.the-variants as names
+use Rattle.reading.specs.declared.geometry.OptionalSize.{OptionalSize}
+use Rattle.reading.specs.declared.focus.FocusAreaMode.{FocusAreaMode}
+use Rattle.reading.specs.declared.afinfo.NamedPoints.{NamedPoints}
+use Rattle.reading.specs.declared.afinfo.NamedPoints.the-variants as names
 use Rattle.reading.specs.declared.nikon.Crop.{Crop}
-use Rattle.load.specs.Load.{refusalNumber}
-use Rattle.load.specs.declared.focus.Refusal.the-variants.{Unnamed}
-use Rattle.named.specs.declared.Window.{Window}
-use Rattle.named.specs.declared.PlacedFrame.{PlacedFrame}
-use Rattle.named.specs.declared.PlacedFrame.the-variants.{Unconfirmed, Confirmed}
-use Rattle.named.specs.Named.{frameMeans, windowOf, placedIn, namedOutcome}
+use Rattle.placing.specs.Load.{refusalNumber}
+use Rattle.placing.specs.declared.load.Refusal.the-variants.{NamesUnplaced}
+use Rattle.placing.specs.declared.named.Window.{Window}
+use Rattle.placing.specs.declared.named.PlacedFrame.{PlacedFrame}
+use Rattle.placing.specs.declared.named.PlacedFrame.the-variants.{Unconfirmed, Confirmed}
+use Rattle.placing.specs.Named.{frameMeans, windowOf, placedIn, namedOutcome}
 use Rattle.placing.specs.declared.nikon.Located.the-variants.{Refused, Names}
-use Rattle.placing.specs.Focus.{locatedMeans}
+use Rattle.placing.specs.Inside.{locatedMeans}
 use denote.Ref.{now}
 use borrow.Author.Needs.{needs}
 use Rattle.placing.proofs.nikon.locate_names.Statement.{statement}
 use Rattle.placing.proofs.nikon.locate_names.Tie as tie
 
 module _ (named : NamedPoints) (model : List ℕ) (crop : Crop) (picture : OptionalSize) (mode : FocusAreaMode) where
-  no-names : named ≡ names.Unnamed → locatedMeans (Refused Unnamed) ≡ namedOutcome named model crop picture mode
+  no-names : named ≡ names.NoNames → locatedMeans (Refused NamesUnplaced) ≡ namedOutcome named model crop picture mode
   unfolding namedOutcome refusalNumber
   no-names e = rw e
 
   module _ (code primary mask : ℕ) (en : named ≡ names.Named code primary mask) (f : PlacedFrame)
       (ef : frameMeans f ≡ windowOf code model crop picture) where
-    unconfirmed : f ≡ Unconfirmed → locatedMeans (Refused Unnamed) ≡ namedOutcome named model crop picture mode
+    unconfirmed : f ≡ Unconfirmed → locatedMeans (Refused NamesUnplaced) ≡ namedOutcome named model crop picture mode
     unfolding namedOutcome placedIn refusalNumber
     unconfirmed e = rw (en, ← ef, e)
 

@@ -5,21 +5,22 @@ use mathlib.Core.List.{List}
 use Prim.Native.Nat.{ℕ}
 use borrow.Author.Tests.{not-true, not-false}
 use denote.Ref.{now}
-use Rattle.tiff.specs.Outcome.{Outcome}
-use Rattle.geometry.specs.declared.Size.{Size}
-use Rattle.geometry.specs.declared.OptionalSize.{OptionalSize}
+use Rattle.reading.specs.Outcome.{Outcome}
+use Rattle.reading.specs.declared.geometry.Size.{Size}
+use Rattle.reading.specs.declared.geometry.OptionalSize.{OptionalSize}
 use Rattle.reading.specs.declared.nikon.Crop.{Crop}
 use Rattle.reading.specs.declared.nikon.CropArea.{CropArea}
-use Rattle.afinfo.specs.declared.FocusRecord.{FocusRecord}
-use Rattle.fitting.specs.declared.focus.FocusPoint.{FocusPoint}
-use Rattle.load.specs.Load.{Focus, refusalNumber}
-use Rattle.recorded.specs.Recorded.{positionOf, positionMeans}
-use Rattle.named.specs.Named.{namedOutcome}
-use Rattle.placing.specs.Focus.{locatedMeans, placedOf, recordsPosition, pointOf}
-use Rattle.load.specs.declared.focus.Refusal.the-variants as why
+use Rattle.reading.specs.declared.afinfo.FocusRecord.{FocusRecord}
+use Rattle.placing.specs.declared.focus.FocusPoint.{FocusPoint}
+use Rattle.placing.specs.Load.{Focus, refusalNumber}
+use Rattle.placing.specs.Recorded.{positionOf, positionMeans}
+use Rattle.placing.specs.Named.{namedOutcome}
+use Rattle.placing.specs.Focus.{placedOf, recordsPosition, pointOf}
+use Rattle.placing.specs.Inside.{locatedMeans}
+use Rattle.placing.specs.declared.load.Refusal.the-variants as why
 use Rattle.placing.specs.declared.nikon.Located.the-variants as at
-use Rattle.recorded.specs.declared.Position.{Position}
-use Rattle.recorded.specs.declared.Position.the-variants.{Unplaced, Placed}
+use Rattle.placing.specs.declared.recorded.Position.{Position}
+use Rattle.placing.specs.declared.recorded.Position.the-variants.{Unplaced, Placed}
 use borrow.Author.Needs.{needs}
 use Rattle.placing.proofs.nikon.locate_record.Statement.{statement}
 use Rattle.placing.proofs.nikon.locate_record.Tie as tie
@@ -35,7 +36,7 @@ module _ (r : FocusRecord) (c : Crop) (a : CropArea) (t : OptionalSize) (m : Lis
     unfolding placedOf
     position f x e = rw (← eb, not-false b h, ← ep, ← eq, e)
 
-    no-position : q ≡ Unplaced → locatedMeans (at.Refused why.Unplaced) ≡ placedOf r c a t m
+    no-position : q ≡ Unplaced → locatedMeans (at.Refused why.PositionUnplaced) ≡ placedOf r c a t m
     unfolding placedOf refusalNumber
     no-position e = rw (← eb, not-false b h, ← ep, ← eq, e)
 

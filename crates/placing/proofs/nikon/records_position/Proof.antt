@@ -1,8 +1,8 @@
 -- `nikon::records_position`: the frame, then the area. Assumes nothing.
 use mathlib.Core.Path.{_≡_}
 use mathlib.Core.Bool.{Bool, true, false, not}
-use Rattle.afinfo.specs.declared.FocusRecord.{FocusRecord}
-use Rattle.fitting.specs.Fit.{hasZeroSide}
+use Rattle.reading.specs.declared.afinfo.FocusRecord.{FocusRecord}
+use Rattle.placing.specs.Fit.{hasZeroSide}
 use Rattle.placing.specs.Focus.{recordsPosition}
 use borrow.Author.Needs.{needs}
 use Rattle.placing.proofs.nikon.records_position.Statement.{statement}

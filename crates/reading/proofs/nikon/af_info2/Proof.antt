@@ -4,13 +4,13 @@ use mathlib.Core.List.{List}
 use Prim.Native.Nat.{ℕ}
 use borrow.Author.Tests.{eq-eqb, ne-eqb}
 use denote.Ref.{now}
-use Rattle.tiff.specs.Outcome.{Outcome, refused}
-use Rattle.tiff.specs.Block.{findOf, typeOf, valueOf}
-use Rattle.afinfo.specs.Record.{recordOf}
+use Rattle.reading.specs.Outcome.{Outcome, refused}
+use Rattle.reading.specs.Block.{findOf, typeOf, valueOf}
+use Rattle.reading.specs.Record.{recordOf}
 use Rattle.reading.specs.Values.{afInfo2Of}
 use Rattle.numbers.specs.declared.io.ByteOrder.{ByteOrder}
-use Rattle.tiff.specs.declared.ifd.Found.{Found}
-use Rattle.afinfo.specs.declared.FocusRecord.{FocusRecord}
+use Rattle.reading.specs.declared.ifd.Found.{Found}
+use Rattle.reading.specs.declared.afinfo.FocusRecord.{FocusRecord}
 use borrow.Author.Needs.{needs}
 use Rattle.reading.proofs.nikon.af_info2.Statement.{statement}
 use Rattle.reading.proofs.nikon.af_info2.Tie as tie

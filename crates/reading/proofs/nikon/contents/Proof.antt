@@ -5,8 +5,8 @@ use Prim.Native.Nat.{ℕ, _-_}
 use lib.ListN.{length, replicate}
 use lib.Seq.{take-append-seam, drop-append-seam}
 use denote.Ref.{now}
-use Rattle.tiff.specs.Outcome.{Outcome, refused, accepted, numberOf}
-use Rattle.tiff.specs.Block.{blockOf}
+use Rattle.reading.specs.Outcome.{Outcome, refused, accepted, numberOf}
+use Rattle.reading.specs.Block.{blockOf}
 use Rattle.reading.specs.Contents.{contentsNumber, Holds, ContentsOf, contentsIn, keptTags, listed, times}
 use Rattle.numbers.specs.declared.io.ByteOrder.{ByteOrder}
 use Rattle.reading.specs.declared.nikon.TagList.{TagList}

@@ -5,13 +5,13 @@ use mathlib.Core.List.{List}
 use Prim.Native.Nat.{ℕ}
 use borrow.Author.Tests.{not-true, not-false}
 use denote.Ref.{now}
-use Rattle.tiff.specs.Block.{findOf, isKept, typeOf, countOf, valueOf}
+use Rattle.reading.specs.Block.{findOf, isKept, typeOf, countOf, valueOf}
 use Rattle.reading.specs.Values.{cropAreaOf, isRectangle, windowIn, insideRaw, numberAt}
 use Rattle.numbers.specs.declared.io.ByteOrder.{ByteOrder}
-use Rattle.geometry.specs.declared.Size.{Size}
-use Rattle.geometry.specs.declared.OptionalSize.{OptionalSize}
-use Rattle.geometry.specs.declared.OptionalSize.the-variants.{Missing, Given}
-use Rattle.tiff.specs.declared.ifd.Found.{Found}
+use Rattle.reading.specs.declared.geometry.Size.{Size}
+use Rattle.reading.specs.declared.geometry.OptionalSize.{OptionalSize}
+use Rattle.reading.specs.declared.geometry.OptionalSize.the-variants.{Missing, Given}
+use Rattle.reading.specs.declared.ifd.Found.{Found}
 use Rattle.reading.specs.declared.nikon.CropArea.{CropArea}
 use Rattle.reading.specs.declared.nikon.CropArea.the-variants.{Absent, Unusable}
 use borrow.Author.Needs.{needs}

@@ -4,11 +4,11 @@ use mathlib.Core.List.{List}
 use Prim.Native.Nat.{ℕ}
 use borrow.Author.Tests.{eq-eqb, ne-eqb}
 use denote.Ref.{now}
-use Rattle.tiff.specs.Block.{findOf, typeOf, countOf, valueOf}
+use Rattle.reading.specs.Block.{findOf, typeOf, countOf, valueOf}
 use Rattle.reading.specs.Values.{cropHiSpeedOf, cropOf, numberAt}
 use Rattle.numbers.specs.declared.io.ByteOrder.{ByteOrder}
-use Rattle.tiff.specs.declared.ifd.Found.{Found}
-use Rattle.reading.specs.declared.nikon.Crop.the-variants.{Unrecorded, Recorded}
+use Rattle.reading.specs.declared.ifd.Found.{Found}
+use Rattle.reading.specs.declared.nikon.Crop.the-variants.{NoCrop, Stated}
 use borrow.Author.Needs.{needs}
 use Rattle.reading.proofs.nikon.crop_hi_speed.Statement.{statement}
 use Rattle.reading.proofs.nikon.crop_hi_speed.Tie as tie
@@ -16,27 +16,27 @@ use Rattle.reading.proofs.nikon.crop_hi_speed.Tie as tie
 -- seven numbers are a crop
 seven : (o : ByteOrder) (v : List ℕ) (a b c d e f g : ℕ) → a ≡ numberAt o 3 v 0 → b ≡ numberAt o 3 v 1 → c ≡ numberAt o 3 v 2 →
     d ≡ numberAt o 3 v 3 → e ≡ numberAt o 3 v 4 → f ≡ numberAt o 3 v 5 → g ≡ numberAt o 3 v 6 →
-    Recorded
+    Stated
     (record {
       mode = a;
       original = record { width = b; height = c };
       cropped = record { width = d; height = e };
       origin = record { x = f; y = g };
     })
-    ≡ Recorded (cropOf o v)
+    ≡ Stated (cropOf o v)
 seven o v a b c d e f g ea eb ec ed ee ef eg = rw (ea, eb, ec, ed, ee, ef, eg)
 
 module _ (o : ByteOrder) (s : List ℕ) (f : Found) (ef : f ≡ findOf o s 27) (t : ℕ) (et : t ≡ typeOf f) where
-  other-type : (t ≡ 3 → ⊥) → Unrecorded ≡ cropHiSpeedOf o s
+  other-type : (t ≡ 3 → ⊥) → NoCrop ≡ cropHiSpeedOf o s
   unfolding cropHiSpeedOf
   other-type n = rw (← ef, ← et, ne-eqb t 3 n)
 
   module _ (e : t ≡ 3) (n : ℕ) (en : n ≡ countOf f) where
-    other-count : (n ≡ 7 → ⊥) → Unrecorded ≡ cropHiSpeedOf o s
+    other-count : (n ≡ 7 → ⊥) → NoCrop ≡ cropHiSpeedOf o s
     unfolding cropHiSpeedOf
     other-count m = rw (← ef, ← et, eq-eqb t 3 e, ← en, ne-eqb n 7 m)
 
-    recorded : n ≡ 7 → (v : List ℕ) → v ≡ valueOf s f → Recorded (cropOf o v) ≡ cropHiSpeedOf o s
+    recorded : n ≡ 7 → (v : List ℕ) → v ≡ valueOf s f → Stated (cropOf o v) ≡ cropHiSpeedOf o s
     unfolding cropHiSpeedOf
     recorded m v ev = rw (← ef, ← et, eq-eqb t 3 e, ← en, eq-eqb n 7 m, ← ev)
 

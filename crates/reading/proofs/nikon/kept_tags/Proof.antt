@@ -9,19 +9,19 @@ use native.Mathlib.Omega.{arith}
 use lib.ListN.{getD, drop, set}
 use lib.Seq.{drop-cons}
 use denote.Ref.{now}
-use Rattle.tiff.specs.Block.{findOf, isKept}
+use Rattle.reading.specs.Block.{findOf, isKept}
 use Rattle.reading.specs.Contents.{fourTags, keptAmong, keptTags, listed}
-use Rattle.laws.proofs.Collect.{Held, stored, finished}
+use Rattle.laws.proofs.Collect.{Collected, stored, finished}
 use Rattle.numbers.specs.declared.io.ByteOrder.{ByteOrder}
 use Rattle.reading.specs.declared.nikon.TagList.{TagList}
-use Rattle.reading.specs.declared.nikon.ContentsAnswer.the-variants.{Listed}
+use Rattle.reading.specs.declared.nikon.ContentsAnswer.the-variants.{Tags}
 use borrow.Author.Needs.{needs}
 use Rattle.reading.proofs.nikon.kept_tags.Statement.{statement}
 use Rattle.reading.proofs.nikon.kept_tags.Tie as tie
 
 -- the places after i of the four tags
 abbrev Going : ByteOrder → List ℕ → List ℕ → ℕ → ℕ → Type 0
-Going o s places n i = Held 4 0 (keptTags o s) places n (keptAmong o s (drop i fourTags))
+Going o s places n i = Collected 4 0 (keptTags o s) places n (keptAmong o s (drop i fourTags))
 
 module _ (o : ByteOrder) (s places : List ℕ) (n i : ℕ) (h : i < 4) (k : Going o s places n i) (t : ℕ) (et : t ≡ getD fourTags i 0)
     (b : Bool) (eb : b ≡ isKept (findOf o s t)) where
@@ -37,7 +37,7 @@ module _ (o : ByteOrder) (s places : List ℕ) (n i : ℕ) (h : i < 4) (k : Goin
   not-there e = rw (add-one i) (rw (drop-cons fourTags i 0 h, ← et, ← eb, e) at k)
 
 end : (o : ByteOrder) (s places : List ℕ) (n i : ℕ) → i ≡ 4 → Going o s places n i →
-    _≡_ {A = TagList} (record { answer = Listed; count = n; tags = places }) (listed (keptTags o s))
+    _≡_ {A = TagList} (record { answer = Tags; count = n; tags = places }) (listed (keptTags o s))
 unfolding keptAmong
 end o s places n i e k =
     let f = finished 4 0 (keptTags o s) places n (rw e at k) in
@@ -51,7 +51,7 @@ abbrev μ-loop : tie.MeasureT-loop
 
 loop-holds : tie.Need-loop-holds Inv-loop μ-loop
 unfolding keptTags
-loop-holds c = ((omega arith, omega arith), record { long = refl; room = omega arith; goes = refl; blanks = refl })
+loop-holds c = ((omega arith, omega arith), record { same-size = refl; count-fits = omega arith; together = refl; blank-after = refl })
 
 mul-tag : tie.Need-mul-tag Inv-loop μ-loop
 mul-tag c = omega arith

@@ -5,10 +5,10 @@ use mathlib.Core.List.{List}
 use Prim.Native.Nat.{ℕ}
 use borrow.Author.Tests.{eq-eqb, ne-eqb}
 use denote.Ref.{now}
-use Rattle.tiff.specs.Block.{findOf, typeOf, valueOf}
+use Rattle.reading.specs.Block.{findOf, typeOf, valueOf}
 use Rattle.reading.specs.Values.{manualFocusOf, isManual}
 use Rattle.numbers.specs.declared.io.ByteOrder.{ByteOrder}
-use Rattle.tiff.specs.declared.ifd.Found.{Found}
+use Rattle.reading.specs.declared.ifd.Found.{Found}
 use borrow.Author.Needs.{needs}
 use Rattle.reading.proofs.nikon.manual_focus.Statement.{statement}
 use Rattle.reading.proofs.nikon.manual_focus.Tie as tie

@@ -1,7 +1,6 @@
 -- `Sheet::add`: the shared refusals, then the sheet that `with_edit` ensures. Assumes nothing.
 use mathlib.Core.Path.{ap, _∙_}
-use Rattle.edits.specs.declared.EditAnswer.the-variants.{Accepted}
-use Rattle.sheet.specs.Sheet.{edited}
+use Rattle.sheet.specs.Sheet.{leaves}
 use Rattle.sheet.proofs.Usable.{when-empty, when-full, when-open}
 use borrow.Author.Needs.{needs}
 use Rattle.sheet.proofs.Sheet.add.Statement.{statement}
@@ -29,7 +28,7 @@ ends-requires-3 : tie.Need-ends-requires-3
 ends-requires-3 c κs = search needs
 
 returns-3 : tie.Need-returns-3
-returns-3 c = (c .ends3 .ensures) ∙ ap (edited Accepted) (c .before .with-edit .ensures) ∙ when-open _ _ (c .before .before .before .before .before .is-usable .ensures) _ (c .before .before .before .before .if1 .left) (c .before .before .if2 .left)
+returns-3 c = (c .ends3 .ensures) ∙ ap (leaves 0) (c .before .with-edit .ensures) ∙ when-open _ _ (c .before .before .before .before .before .is-usable .ensures) _ (c .before .before .before .before .if1 .left) (c .before .before .if2 .left)
 
 pub add-spec : {M : Type 1} → statement M
 add-spec =

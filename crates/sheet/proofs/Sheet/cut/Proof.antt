@@ -4,43 +4,42 @@ use mathlib.Core.Bool.{Bool, true, false, not}
 use Prim.Native.Nat.{ℕ, _<_}
 use native.Mathlib.Omega.{arith}
 use borrow.Author.Tests.{not-true, not-false}
-use Rattle.geometry.specs.declared.Size.{Size}
-use Rattle.edits.specs.declared.Edit.{Edit}
-use Rattle.edits.specs.declared.Edit.the-variants.{Cut}
-use Rattle.edits.specs.declared.Placed.{Placed}
-use Rattle.edits.specs.declared.EditAnswer.the-variants.{Accepted, BadCut, DropsPrimary}
+use Rattle.reading.specs.declared.geometry.Size.{Size}
+use Rattle.sheet.specs.declared.edits.Edit.{Edit}
+use Rattle.sheet.specs.declared.edits.Edit.the-variants.{Cut}
+use Rattle.sheet.specs.declared.edits.Carried.{Carried}
 use Rattle.sheet.specs.declared.Sheet.{Sheet}
-use Rattle.edits.specs.Place.{moved, cutPasses}
-use Rattle.sheet.specs.Sheet.{edited, usable, placedAt, presentFrame, addEdit, keepsPrimary, cutSheet}
+use Rattle.sheet.specs.Place.{moved, cutPasses}
+use Rattle.sheet.specs.Sheet.{leaves, usable, placedAt, presentFrame, addEdit, keepsPrimary, cutSheet}
 use Rattle.sheet.proofs.Usable.{counts, when-empty, when-full, when-open}
 use borrow.Author.Needs.{needs}
 use Rattle.sheet.proofs.Sheet.cut.Statement.{statement}
 use Rattle.sheet.proofs.Sheet.cut.Tie as tie
 
-module _ (s : Sheet) (q : Placed) (e : q ≡ placedAt s (s .primary)) where
+module _ (s : Sheet) (q : Carried) (e : q ≡ placedAt s (s .primary)) where
   frame-of : q .frame ≡ presentFrame s
   unfolding presentFrame
-  frame-of = ap (λ (x : Placed). x .frame) e
+  frame-of = ap (λ (x : Carried). x .frame) e
 
-  listed-by : (d : Edit) (u : Placed) → u ≡ moved d q → u .listed ≡ keepsPrimary s d
+  listed-by : (d : Edit) (u : Carried) → u ≡ moved d q → u .listed ≡ keepsPrimary s d
   unfolding keepsPrimary
-  listed-by d u g = ap (λ (x : Placed). x .listed) (g ∙ ap (moved d) e)
+  listed-by d u g = ap (λ (x : Carried). x .listed) (g ∙ ap (moved d) e)
 
 module _ (s : Sheet) (l t w h : ℕ) (r : Bool) (e : r ≡ usable s) (n : not r ≡ false) (a : s .standing < 64)
     (f : Size) (ef : f ≡ presentFrame s) (p : Bool) (ep : p ≡ cutPasses l t w h f) where
-  passes-frame : not p ≡ true → edited BadCut s ≡ cutSheet s l t w h
+  passes-frame : not p ≡ true → leaves 9 s ≡ cutSheet s l t w h
   unfolding cutSheet
-  passes-frame m = rw (← ef, ← ep, not-true p m) (when-open s r e (edited BadCut s) n a)
+  passes-frame m = rw (← ef, ← ep, not-true p m) (when-open s r e (leaves 9 s) n a)
 
   module _ (m : not p ≡ false) (k : Bool) (ek : k ≡ keepsPrimary s (Cut l t w h)) where
-    drops : not k ≡ true → edited DropsPrimary s ≡ cutSheet s l t w h
+    drops : not k ≡ true → leaves 10 s ≡ cutSheet s l t w h
     unfolding cutSheet
-    drops d = rw (← ef, ← ep, not-false p m, ← ek, not-true k d) (when-open s r e (edited DropsPrimary s) n a)
+    drops d = rw (← ef, ← ep, not-false p m, ← ek, not-true k d) (when-open s r e (leaves 10 s) n a)
 
-    done : not k ≡ false → (z : Sheet) → z ≡ addEdit s (Cut l t w h) → edited Accepted z ≡ cutSheet s l t w h
+    done : not k ≡ false → (z : Sheet) → z ≡ addEdit s (Cut l t w h) → leaves 0 z ≡ cutSheet s l t w h
     unfolding cutSheet
     done d z ez =
-        rw (← ef, ← ep, not-false p m, ← ek, not-false k d, ← ez) (when-open s r e (edited Accepted z) n a)
+        rw (← ef, ← ep, not-false p m, ← ek, not-false k d, ← ez) (when-open s r e (leaves 0 z) n a)
 
 is-usable-requires : tie.Need-is-usable-requires
 is-usable-requires c κs = search needs

@@ -1,4 +1,4 @@
--- `Sheet::fit`: the tests of fitAnswer and fitBuffer, in the code's order. Assumes nothing.
+-- `Sheet::fit`: the tests of fitOutcome and fitBuffer, in the code's order. Assumes nothing.
 use mathlib.Core.Path.{_≡_, refl, sym, ap, _∙_}
 use mathlib.Core.Bool.{Bool, true, false, not}
 use mathlib.Core.List.{List, _++_}
@@ -6,18 +6,20 @@ use Prim.Native.Nat.{ℕ}
 use lib.ListN.{length, take, drop, length-map}
 use lib.Seq.{take-at}
 use borrow.Author.Tests.{not-true, not-false}
-use Rattle.geometry.specs.declared.Size.{Size}
-use Rattle.fitting.specs.declared.focus.FocusPoint.{FocusPoint}
-use Rattle.fitting.specs.Fit.{hasZeroSide}
+use Rattle.reading.specs.declared.geometry.Size.{Size}
+use Rattle.placing.specs.declared.focus.FocusPoint.{FocusPoint}
+use Rattle.placing.specs.Fit.{hasZeroSide}
 use Rattle.sheet.specs.declared.Sheet.{Sheet}
-use Rattle.listing.specs.declared.ListAnswer.the-variants.{Empty, ZeroBox, Short, Listed}
+use Rattle.sheet.specs.declared.listing.Listing.{Listing}
+use Rattle.sheet.specs.declared.listing.ListAnswer.the-variants.{Empty, ZeroBox, Short, Listed}
 use Rattle.sheet.specs.declared.list.Present.{Present}
 use Rattle.sheet.specs.Sheet.{usable, presentFrame}
-use Rattle.listing.specs.Listing.{flat, over, hasRoom, withPoints}
-use Rattle.sheet.specs.Listing.{listed, listCount, presentOf, scaledAll, fitAnswer, fitBuffer}
+use Rattle.sheet.specs.Listing.{listMeans, flat, over, hasRoom, withPoints}
+use Rattle.sheet.specs.Lists.{listed, listCount, scaledAll, fitOutcome, fitBuffer}
+use Rattle.sheet.specs.Inside.{presentOf}
 use Rattle.sheet.proofs.Usable.{counts}
 use Rattle.sheet.proofs.Present.{count-of, count-room, frame-of, points-of, short, long, head-of}
-use Rattle.listing.proofs.Buffer.{no-room, has-room}
+use Rattle.sheet.proofs.Buffer.{no-room, has-room}
 use borrow.Author.Needs.{needs}
 use Rattle.sheet.proofs.Sheet.fit.Statement.{statement}
 use Rattle.sheet.proofs.Sheet.fit.Tie as tie
@@ -39,32 +41,32 @@ scaled-listed s box v ev qs g =
     ∙ ap (λ (f : Size). scaledAll f box (listed s)) (frame-of s v ev)
 
 module _ (s : Sheet) (box : Size) (r : Bool) (e : r ≡ usable s) (b : List ℕ) where
-  empty : not r ≡ true → (Empty ≡ fitAnswer s box (length b)) × (b ≡ fitBuffer s box b)
-  unfolding fitAnswer fitBuffer
+  empty : not r ≡ true → (listMeans Empty ≡ fitOutcome s box (length b)) × (b ≡ fitBuffer s box b)
+  unfolding fitOutcome fitBuffer
   empty n = rw (← e, not-true r n) (refl, refl)
 
   module _ (n : not r ≡ false) (z : Bool) (ez : z ≡ hasZeroSide box) where
-    zero-box : z ≡ true → (ZeroBox ≡ fitAnswer s box (length b)) × (b ≡ fitBuffer s box b)
-    unfolding fitAnswer fitBuffer
+    zero-box : z ≡ true → (listMeans ZeroBox ≡ fitOutcome s box (length b)) × (b ≡ fitBuffer s box b)
+    unfolding fitOutcome fitBuffer
     zero-box t = rw (← e, not-false r n, ← ez, t) (refl, refl)
 
     module _ (t : z ≡ false) (v : Present) (ev : v ≡ presentOf s) (qs : List FocusPoint)
         (g : qs ≡ scaledAll (v .frame) box (take (v .count) (v .points)) ++ drop (v .count) (v .points)) (w : Bool) (out : List ℕ)
         (p : (w ≡ hasRoom (v .count) (length b)) × (out ≡ withPoints qs (v .count) b)) where
-      too-short : not w ≡ true → (Short ≡ fitAnswer s box (length b)) × (out ≡ fitBuffer s box b)
-      unfolding fitAnswer fitBuffer
+      too-short : not w ≡ true → (listMeans Short ≡ fitOutcome s box (length b)) × (out ≡ fitBuffer s box b)
+      unfolding fitOutcome fitBuffer
       too-short y =
           let k = no-room qs (v .count) (count-room s v ev (counts s r e n)) b out w p y in
           rw (← e, not-false r n, ← ez, t, short s v ev (length b) (k .0)) (refl, k .1)
 
       all-listed : not w ≡ false
-          → (Listed (record { frame = box; count = v .count; index = v .index; mode = s .«area_mode»; origin = s .origin }) ≡ fitAnswer s box (length b))
+          → (listMeans (Listed (record { frame = box; count = v .count; index = v .index; mode = s .«area_mode»; origin = s .origin })) ≡ fitOutcome s box (length b))
           × (out ≡ fitBuffer s box b)
-      unfolding fitAnswer fitBuffer
+      unfolding fitOutcome fitBuffer
       all-listed y =
           let k = has-room qs (v .count) (count-room s v ev (counts s r e n)) b out w p y in
           rw (← e, not-false r n, ← ez, t, long s v ev (length b) (k .0)) (
-            ap Listed (head-of s v ev box),
+            ap (λ (l : Listing). listMeans (Listed l)) (head-of s v ev box),
             k .1 ∙ ap (λ (ps : List FocusPoint). over (flat ps) b) (scaled-listed s box v ev qs g),
           )
 

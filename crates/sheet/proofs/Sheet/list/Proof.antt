@@ -1,45 +1,48 @@
--- `Sheet::list`: the tests of listAnswer and listBuffer, in the code's order. Assumes nothing.
+-- `Sheet::list`: the tests of listOutcome and listBuffer, in the code's order. Assumes nothing.
 use mathlib.Core.Path.{_≡_, refl, ap, _∙_}
 use mathlib.Core.Bool.{Bool, true, false, not}
 use mathlib.Core.List.{List}
 use Prim.Native.Nat.{ℕ}
 use lib.ListN.{length}
 use borrow.Author.Tests.{not-true, not-false}
-use Rattle.fitting.specs.declared.focus.FocusPoint.{FocusPoint}
+use Rattle.placing.specs.declared.focus.FocusPoint.{FocusPoint}
+use Rattle.reading.specs.declared.geometry.Size.{Size}
 use Rattle.sheet.specs.declared.Sheet.{Sheet}
-use Rattle.listing.specs.declared.ListAnswer.the-variants.{Empty, Short, Listed}
+use Rattle.sheet.specs.declared.listing.Listing.{Listing}
+use Rattle.sheet.specs.declared.listing.ListAnswer.the-variants.{Empty, Short, Listed}
 use Rattle.sheet.specs.declared.list.Present.{Present}
 use Rattle.sheet.specs.Sheet.{usable}
-use Rattle.listing.specs.Listing.{flat, over, hasRoom, withPoints}
-use Rattle.sheet.specs.Listing.{presentOf, headIn, listAnswer, listBuffer}
+use Rattle.sheet.specs.Listing.{listMeans, flat, over, hasRoom, withPoints}
+use Rattle.sheet.specs.Lists.{headIn, listOutcome, listBuffer}
+use Rattle.sheet.specs.Inside.{presentOf}
 use Rattle.sheet.proofs.Usable.{counts}
 use Rattle.sheet.proofs.Present.{count-room, frame-of, points-of, short, long, head-of}
-use Rattle.listing.proofs.Buffer.{no-room, has-room}
+use Rattle.sheet.proofs.Buffer.{no-room, has-room}
 use borrow.Author.Needs.{needs}
 use Rattle.sheet.proofs.Sheet.list.Statement.{statement}
 use Rattle.sheet.proofs.Sheet.list.Tie as tie
 
 module _ (s : Sheet) (r : Bool) (e : r ≡ usable s) (b : List ℕ) where
-  empty : not r ≡ true → (Empty ≡ listAnswer s (length b)) × (b ≡ listBuffer s b)
-  unfolding listAnswer listBuffer
+  empty : not r ≡ true → (listMeans Empty ≡ listOutcome s (length b)) × (b ≡ listBuffer s b)
+  unfolding listOutcome listBuffer
   empty n = rw (← e, not-true r n) (refl, refl)
 
   module _ (n : not r ≡ false) (v : Present) (ev : v ≡ presentOf s) (w : Bool) (out : List ℕ)
       (p : (w ≡ hasRoom (v .count) (length b)) × (out ≡ withPoints (v .points) (v .count) b)) where
-    too-short : not w ≡ true → (Short ≡ listAnswer s (length b)) × (out ≡ listBuffer s b)
-    unfolding listAnswer listBuffer
+    too-short : not w ≡ true → (listMeans Short ≡ listOutcome s (length b)) × (out ≡ listBuffer s b)
+    unfolding listOutcome listBuffer
     too-short t =
         let k = no-room (v .points) (v .count) (count-room s v ev (counts s r e n)) b out w p t in
         rw (← e, not-false r n, short s v ev (length b) (k .0)) (refl, k .1)
 
     all-listed : not w ≡ false
-        → (Listed (record { frame = v .frame; count = v .count; index = v .index; mode = s .«area_mode»; origin = s .origin }) ≡ listAnswer s (length b))
+        → (listMeans (Listed (record { frame = v .frame; count = v .count; index = v .index; mode = s .«area_mode»; origin = s .origin })) ≡ listOutcome s (length b))
         × (out ≡ listBuffer s b)
-    unfolding listAnswer listBuffer
+    unfolding listOutcome listBuffer
     all-listed t =
         let k = has-room (v .points) (v .count) (count-room s v ev (counts s r e n)) b out w p t in
         rw (← e, not-false r n, long s v ev (length b) (k .0)) (
-          ap Listed (head-of s v ev (v .frame)) ∙ ap (λ f. Listed (headIn f s)) (frame-of s v ev),
+          ap (λ (l : Listing). listMeans (Listed l)) (head-of s v ev (v .frame) ∙ ap (λ (f : Size). headIn f s) (frame-of s v ev)),
           k .1 ∙ ap (λ (ps : List FocusPoint). over (flat ps) b) (points-of s v ev),
         )
 

@@ -4,11 +4,11 @@ use mathlib.Core.Logic.{⊎-elim}
 use Prim.Native.Nat.{_-_, _≤_}
 use native.Mathlib.Omega.{arith}
 use lib.ListN.{length}
-use Rattle.load.specs.Load.{places}
-use Rattle.edits.proofs.Most.{all-held}
-use Rattle.load.specs.declared.focus.Row.{Row}
+use Rattle.placing.specs.Load.{places}
+use Rattle.sheet.proofs.Most.{all-held}
+use Rattle.placing.specs.declared.load.Row.{Row}
 use Rattle.sheet.specs.Sheet.{placedAt}
-use Rattle.sheet.specs.Listing.{listing}
+use Rattle.sheet.specs.Lists.{listing}
 use Rattle.sheet.proofs.Listed.{has-room, one-in, none-in, row-done}
 use Rattle.sheet.proofs.Sheet.listed_to.Statement.{statement}
 use Rattle.sheet.proofs.Sheet.listed_to.Tie as tie

@@ -2,49 +2,41 @@
 use mathlib.Core.Path.{_≡_, sym, ap, _∙_}
 use mathlib.Core.Bool.{true}
 use Prim.Native.Nat.{ℕ}
-use native.Mathlib.Omega.{arith}
 use lib.ListN.{replicate}
-use Rattle.tiff.specs.Outcome.{Outcome, refused, accepted}
-use Rattle.load.specs.declared.focus.Refusal.{Refusal}
-use Rattle.load.specs.declared.focus.FocusAnswer.{FocusAnswer}
-use Rattle.load.specs.declared.focus.FocusAnswer.the-variants.{Placed, Refused}
-use Rattle.load.specs.declared.focus.FocusPoints.{FocusPoints}
-use Rattle.load.specs.Load.{Focus, refusalOf, refusedBy, laidOut}
+use Rattle.reading.specs.Outcome.{Outcome, refused, accepted}
+use Rattle.placing.specs.declared.load.Refusal.{Refusal}
+use Rattle.placing.specs.declared.load.FocusAnswer.the-variants.{Accepted, Refused}
+use Rattle.placing.specs.Load.{Focus, Laid, refusalNumber, loadNumber, laidOut}
+use Rattle.placing.proofs.Numbers.{numbered-load}
+use Rattle.placing.proofs.Means.{IsLaid, when-refused, when-accepted}
 use Rattle.sheet.specs.declared.Sheet.{Sheet}
-use Rattle.sheet.specs.Sheet.{loaded, loadedSheet, loadSheet}
+use Rattle.sheet.specs.Sheet.{leaves, loadedSheet, loadSheet}
 use borrow.Author.Needs.{needs}
 use Rattle.sheet.proofs.Sheet.load.Statement.{statement}
 use Rattle.sheet.proofs.Sheet.load.Tie as tie
 
-when-refused : (s : Sheet) (o : Outcome Focus) (p : FocusPoints) (w : Refusal) → p ≡ laidOut o → p .answer ≡ Refused w
-    → loaded (Refused w) s ≡ loadSheet s o
-unfolding loadSheet laidOut refusedBy
-when-refused s (refused n) p w e g =
-    let h : Refused w ≡ Refused (refusalOf n) = sym g ∙ ap (λ (x : FocusPoints). x .answer) e in
-    ap (λ (a : FocusAnswer). loaded a s) h
-when-refused s (accepted f) p w e g =
-    let h : Refused w ≡ Placed = sym g ∙ ap (λ (x : FocusPoints). x .answer) e in
-    let z : _≡_ {A = ℕ} 0 1 = cc in
-    absurd (omega arith)
-
-when-placed : (s : Sheet) (o : Outcome Focus) (p : FocusPoints) → p ≡ laidOut o → p .answer ≡ Placed
-    → loaded Placed (record {
+-- the sheet of what a load laid out
+abbrev sheetOf : Laid → Sheet
+sheetOf l =
+    record {
       loaded = true;
-      frame = p .frame;
-      points = p .points;
-      count = p .count;
-      primary = p .primary;
-      «area_mode» = p .«area_mode»;
-      origin = p .origin;
+      frame = l .frame;
+      points = l .points;
+      count = l .count;
+      primary = l .primary;
+      «area_mode» = l .mode;
+      origin = l .origin;
       edits = replicate 320 0;
       standing = 0;
-    }) ≡ loadSheet s o
-unfolding loadSheet loadedSheet laidOut refusedBy
-when-placed s (refused n) p e g =
-    let h : Placed ≡ Refused (refusalOf n) = sym g ∙ ap (λ (x : FocusPoints). x .answer) e in
-    let z : _≡_ {A = ℕ} 0 1 = cc in
-    absurd (omega arith)
-when-placed s (accepted f) p e g = rw e
+    }
+
+keeps : (s : Sheet) (o : Outcome Focus) (w : Refusal) → o ≡ refused (refusalNumber w) → leaves (loadNumber (Refused w)) s ≡ loadSheet s o
+unfolding loadSheet loadNumber
+keeps s o w e = rw e
+
+replaces : (s : Sheet) (o : Outcome Focus) (l : Laid) → IsLaid o l → leaves (loadNumber Accepted) (sheetOf l) ≡ loadSheet s o
+unfolding loadSheet loadedSheet laidOut loadNumber
+replaces s o l k = ap (λ (x : Laid). leaves 0 (sheetOf x)) (k .laid) ∙ ap (loadSheet s) (sym (k .is))
 
 focus-requires : tie.Need-focus-requires
 focus-requires c κs = search needs
@@ -56,10 +48,10 @@ enum-told : tie.Need-enum-told
 enum-told c = search needs
 
 returns : tie.Need-returns
-returns c = when-refused _ _ _ _ (c .before .before .before .focus .ensures) (c .before .answer .given .1)
+returns c = keeps _ _ _ (when-refused _ _ _ (c .before .before .before .focus .ensures) (c .before .answer .given .1))
 
 returns-2 : tie.Need-returns-2
-returns-2 c = when-placed _ _ _ (c .before .before .before .before .focus .ensures) (c .before .before .enum-told .given .1)
+returns-2 c = replaces _ _ _ (when-accepted _ _ (numbered-load _ _ _ _) (c .before .before .before .before .focus .ensures) (c .before .before .enum-told .given .1))
 
 pub load-spec : {M : Type 1} → statement M
 load-spec = tie.close (tie.spec focus-requires enum-known-answer enum-told returns returns-2)

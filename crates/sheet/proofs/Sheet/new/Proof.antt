@@ -3,12 +3,12 @@ use mathlib.Core.Path.{_≡_}
 use mathlib.Core.Bool.{false}
 use mathlib.Core.List.{List}
 use lib.ListN.{replicate}
-use Rattle.afinfo.specs.declared.focus.FocusAreaMode.the-variants.{Unnamed}
-use Rattle.fitting.specs.declared.focus.FocusPoint.{FocusPoint}
-use Rattle.load.specs.declared.focus.FocusOrigin.the-variants.{Recorded}
-use Rattle.load.specs.Load.{noPoint}
+use Rattle.reading.specs.declared.focus.FocusAreaMode.the-variants.{NoMode}
+use Rattle.placing.specs.declared.focus.FocusPoint.{FocusPoint}
+use Rattle.placing.specs.declared.load.FocusOrigin.the-variants.{Recorded}
+use Rattle.placing.specs.Load.{noPoint}
 use Rattle.sheet.specs.declared.Sheet.{Sheet}
-use Rattle.fitting.specs.Fit.{by}
+use Rattle.placing.specs.Fit.{by}
 use Rattle.sheet.specs.Sheet.{freshSheet}
 use borrow.Author.Needs.{needs}
 use Rattle.sheet.proofs.Sheet.new.Statement.{statement}
@@ -21,7 +21,7 @@ fresh : (ps : List FocusPoint) → ps ≡ replicate 39 noPoint
       points = ps;
       count = 0;
       primary = 0;
-      «area_mode» = Unnamed;
+      «area_mode» = NoMode;
       origin = Recorded;
       edits = replicate 320 0;
       standing = 0;

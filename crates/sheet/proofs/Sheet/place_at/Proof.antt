@@ -1,6 +1,6 @@
 -- `Sheet::place_at`: what `place_after` ensures. Assumes nothing.
 use mathlib.Core.Path.{_∙_}
-use Rattle.edits.proofs.Most.{all-held}
+use Rattle.sheet.proofs.Most.{all-held}
 use Rattle.sheet.specs.Sheet.{placedAt}
 use borrow.Author.Needs.{needs}
 use Rattle.sheet.proofs.Sheet.place_at.Statement.{statement}

@@ -1,18 +1,19 @@
 -- `Sheet::present`: two rows of listed points and the primary's place, by what the callees ensure. Assumes nothing.
 use mathlib.Core.Path.{_≡_}
 use native.Mathlib.Omega.{arith}
-use Rattle.edits.specs.declared.Placed.{Placed}
+use Rattle.sheet.specs.declared.edits.Carried.{Carried}
 use Rattle.sheet.specs.declared.Sheet.{Sheet}
-use Rattle.load.specs.declared.focus.Row.{Row}
+use Rattle.placing.specs.declared.load.Row.{Row}
 use Rattle.sheet.specs.declared.list.Present.{Present}
 use Rattle.sheet.specs.Sheet.{placedAt, presentFrame}
-use Rattle.load.specs.Load.{rowOf}
-use Rattle.sheet.specs.Listing.{listing, listed, listCount, listIndex, presentOf}
+use Rattle.placing.specs.Inside.{rowOf}
+use Rattle.sheet.specs.Lists.{listing, listed, listCount, listIndex}
+use Rattle.sheet.specs.Inside.{presentOf}
 use borrow.Author.Needs.{needs}
 use Rattle.sheet.proofs.Sheet.present.Statement.{statement}
 use Rattle.sheet.proofs.Sheet.present.Tie as tie
 
-is-present : (s : Sheet) (b a : Row) (q : Placed) → b ≡ rowOf (listing s (s .primary)) → a ≡ rowOf (listing s (s .count))
+is-present : (s : Sheet) (b a : Row) (q : Carried) → b ≡ rowOf (listing s (s .primary)) → a ≡ rowOf (listing s (s .count))
     → q ≡ placedAt s (s .primary)
     → _≡_ {A = Present} (record { frame = q .frame; points = a .points; count = a .count; index = b .count }) (presentOf s)
 unfolding presentOf presentFrame listed listCount listIndex

@@ -2,11 +2,11 @@
 use mathlib.Core.Path.{_≡_, ap}
 use mathlib.Core.List.{List}
 use Prim.Native.Nat.{ℕ, _+_, _*_}
-use Rattle.edits.specs.declared.Edit.{Edit}
+use Rattle.sheet.specs.declared.edits.Edit.{Edit}
 use Rattle.sheet.specs.declared.Sheet.{Sheet}
-use Rattle.edits.specs.Place.{wordsOf}
+use Rattle.sheet.specs.Place.{wordsOf}
 use Rattle.sheet.specs.Sheet.{withEdits, addEdit}
-use Rattle.edits.proofs.Words.{fiveStores, five-stores}
+use Rattle.sheet.proofs.Words.{fiveStores, five-stores}
 use borrow.Author.Needs.{needs}
 use Rattle.sheet.proofs.Sheet.with_edit.Statement.{statement}
 use Rattle.sheet.proofs.Sheet.with_edit.Tie as tie

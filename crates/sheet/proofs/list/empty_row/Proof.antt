@@ -2,9 +2,10 @@
 use mathlib.Core.Path.{_≡_}
 use mathlib.Core.List.{List, []}
 use lib.ListN.{replicate}
-use Rattle.fitting.specs.declared.focus.FocusPoint.{FocusPoint}
-use Rattle.load.specs.Load.{noPoint, places, rowOf}
-use Rattle.load.specs.declared.focus.Row.{Row}
+use Rattle.placing.specs.declared.focus.FocusPoint.{FocusPoint}
+use Rattle.placing.specs.Load.{noPoint, places}
+use Rattle.placing.specs.Inside.{rowOf}
+use Rattle.placing.specs.declared.load.Row.{Row}
 use borrow.Author.Needs.{needs}
 use Rattle.sheet.proofs.list.empty_row.Statement.{statement}
 use Rattle.sheet.proofs.list.empty_row.Tie as tie

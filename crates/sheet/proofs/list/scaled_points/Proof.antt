@@ -6,11 +6,11 @@ use native.Mathlib.Omega.{arith}
 use native.Mathlib.Numerals.{add-one}
 use lib.ListN.{getD, length, take, drop, set, length-map}
 use lib.Seq.{take-suc, drop-cons, set-at, append-snoc, length-take-le}
-use Rattle.geometry.specs.declared.Size.{Size}
-use Rattle.fitting.specs.declared.focus.FocusPoint.{FocusPoint}
-use Rattle.fitting.specs.Scale.{scaledPoint}
-use Rattle.load.specs.Load.{noPoint}
-use Rattle.sheet.specs.Listing.{scaledAll}
+use Rattle.reading.specs.declared.geometry.Size.{Size}
+use Rattle.placing.specs.declared.focus.FocusPoint.{FocusPoint}
+use Rattle.placing.specs.Scale.{scaledPoint}
+use Rattle.placing.specs.Load.{noPoint}
+use Rattle.sheet.specs.Lists.{scaledAll}
 use borrow.Author.Needs.{needs}
 use Rattle.sheet.proofs.list.scaled_points.Statement.{statement}
 use Rattle.sheet.proofs.list.scaled_points.Tie as tie

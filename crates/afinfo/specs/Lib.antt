@@ -1,2 +1,0 @@
-pub mod Focus
-pub mod Record

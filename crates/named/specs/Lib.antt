@@ -1,3 +1,0 @@
-pub mod Points
-pub mod Named
-pub mod Table

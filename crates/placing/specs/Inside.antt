@@ -1,0 +1,34 @@
+-- What only the code of this crate, and of the sheet above it, needs: no promise in 01's words rests on it.
+use Prim.Native.Nat.{ℕ}
+use mathlib.Core.Bool.{Bool, cond}
+use mathlib.Core.List.{List}
+use lib.ListN.{length}
+use Rattle.reading.specs.Outcome.{Outcome, refused, accepted}
+use Rattle.placing.specs.declared.focus.FocusPoint.{FocusPoint}
+use Rattle.placing.specs.declared.points.FocusLayoutPoint.{FocusLayoutPoint}
+use Rattle.placing.specs.declared.named.Candidate.{Candidate}
+use Rattle.placing.specs.declared.named.Candidate.the-variants.{Out, In}
+use Rattle.placing.specs.declared.load.Row.{Row}
+use Rattle.placing.specs.declared.nikon.Located.{Located}
+use Rattle.placing.specs.declared.nikon.Located.the-variants.{Refused, Position, Names}
+use Rattle.placing.specs.Load.{Focus, refusalNumber, alone, places}
+use Rattle.placing.specs.Named.{placedIn}
+
+-- points in 39 places, and how many there are
+abbrev pub rowOf : List FocusPoint → Row
+rowOf ps = record { points = places ps; count = length ps }
+
+-- what stands past the table's end
+abbrev pub noLayoutPoint : FocusLayoutPoint
+noLayoutPoint =
+    record { number = 0; center = record { x = 0; y = 0 }; size = record { width = 0; height = 0 } }
+
+-- a point of the table that is listed, or is not
+abbrev pub candidateOf : Bool → FocusPoint → Candidate
+candidateOf is p = cond is (In p) Out
+
+-- what a load comes to, of where its points are
+abbrev pub locatedMeans : Located → Outcome Focus
+locatedMeans (Refused why) = refused (refusalNumber why)
+locatedMeans (Position f p m) = alone f p m
+locatedMeans (Names w primary mask m) = placedIn (accepted w) primary mask m

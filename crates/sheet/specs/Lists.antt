@@ -1,0 +1,74 @@
+-- 01, "After the sheet": what list and fit answer and write, for every sheet and buffer.
+use Prim.Native.Nat.{ℕ, zero, suc, _*_}
+use mathlib.Core.Bool.{Bool, cond}
+use mathlib.Core.List.{List, [], _∷_, _++_, map}
+use lib.Dec.{ltb}
+use lib.ListN.{length}
+use Rattle.reading.specs.Outcome.{Outcome, refused, accepted}
+use Rattle.reading.specs.declared.geometry.Size.{Size}
+use Rattle.placing.specs.declared.focus.FocusPoint.{FocusPoint}
+use Rattle.placing.specs.Fit.{hasZeroSide}
+use Rattle.placing.specs.Scale.{scaledPoint}
+use Rattle.sheet.specs.declared.edits.Carried.{Carried}
+use Rattle.sheet.specs.Listing.{headNumbers, flat, over}
+use Rattle.sheet.specs.declared.Sheet.{Sheet}
+use Rattle.sheet.specs.declared.listing.Listing.{Listing}
+use Rattle.sheet.specs.Sheet.{usable, placedAt, presentFrame}
+
+-- a point, if no standing cut dropped it
+abbrev pub ifCarried : Carried → List FocusPoint
+ifCarried q = cond (q .listed) (q .point ∷ []) []
+
+-- of the load's first i points, those that no standing cut dropped, in the load's order and where the edits carry them
+unfoldable pub listing : Sheet → ℕ → List FocusPoint
+listing s zero = []
+listing s (suc i) = listing s i ++ ifCarried (placedAt s i)
+
+-- all that are listed
+unfoldable pub listed : Sheet → List FocusPoint
+listed s = listing s (s .count)
+
+-- "count is their number"
+unfoldable pub listCount : Sheet → ℕ
+listCount s = length (listed s)
+
+-- "the primary's index its place among them"
+unfoldable pub listIndex : Sheet → ℕ
+listIndex s = length (listing s (s .primary))
+
+-- 13, for a buffer of m places: "buffer shorter than 6 × count"
+unfoldable pub isShort : Sheet → ℕ → Bool
+isShort s m = ltb m (6 * listCount s)
+
+-- what a listing in the frame f answers
+unfoldable pub headIn : Size → Sheet → Listing
+headIn f s =
+    record { frame = f; count = listCount s; index = listIndex s; mode = s .«area_mode»; origin = s .origin }
+
+-- how list ends, for a buffer of m places: 7, 13, or what is given
+unfoldable pub listOutcome : Sheet → ℕ → Outcome (List ℕ)
+listOutcome s m =
+    cond (usable s) (cond (isShort s m) (refused 13) (accepted (headNumbers (headIn (presentFrame s) s)))) (refused 7)
+
+-- the buffer that list leaves
+unfoldable pub listBuffer : Sheet → List ℕ → List ℕ
+listBuffer s b = cond (usable s) (cond (isShort s (length b)) b (over (flat (listed s)) b)) b
+
+-- "each point scaled from the present frame to it"
+unfoldable pub scaledAll : Size → Size → List FocusPoint → List FocusPoint
+scaledAll old new ps = map (λ p. scaledPoint p old new) ps
+
+-- "Fit answers .. as list does, with the box as frame": 12 comes before 13
+unfoldable pub fitOutcome : Sheet → Size → ℕ → Outcome (List ℕ)
+fitOutcome s box m =
+    cond (usable s)
+    (cond (hasZeroSide box) (refused 12) (cond (isShort s m) (refused 13) (accepted (headNumbers (headIn box s)))))
+    (refused 7)
+
+-- the buffer that fit leaves
+unfoldable pub fitBuffer : Sheet → Size → List ℕ → List ℕ
+fitBuffer s box b =
+    cond (usable s)
+    (cond (hasZeroSide box) b
+    (cond (isShort s (length b)) b (over (flat (scaledAll (presentFrame s) box (listed s))) b)))
+    b

@@ -1,0 +1,275 @@
+// An edit, and one point under edits.
+use placing::focus::FocusPoint;
+use reading::geometry::Point;
+use reading::geometry::Size;
+ghost use mathlib.Core.Path.{_≡_};
+ghost use mathlib.Core.Bool.{_&&_};
+ghost use Prim.Native.Nat.{_+_, _-_, _<_, _≤_, min};
+ghost use lib.Dec.{leb};
+ghost use Rattle.sheet.specs.Answer.{editNumber};
+ghost use Rattle.sheet.specs.Place.{turnedPoint, mirroredPoint, shiftedPoint, staysOn, cutPoint, moved, wordsOf, editAt, placed, cutPasses};
+
+// A clockwise quarter rotation, an exchange of left and right, or a cut to a rectangle.
+pub enum Edit {
+    Turn,
+    Mirror,
+    Cut {
+        left: u32,
+        top: u32,
+        width: u32,
+        height: u32,
+    },
+}
+
+// How cut, turn, mirror and back end: 01's numbers 0 and 7 to 11, in this order.
+pub enum EditAnswer {
+    Accepted,
+    Empty,
+    Full,
+    BadCut,
+    DropsPrimary,
+    NothingStands,
+}
+
+// A point after some edits: whether no cut dropped it, where it is, and the frame that it is in.
+pub struct Carried {
+    pub listed: bool,
+    pub point: FocusPoint,
+    pub frame: Size,
+}
+
+// 01's number for how cut, turn, mirror and back end, 0 for accepted.
+pub fn edit_number(answer: EditAnswer) -> u32
+    ensures { λ r. ⌜ r ≡ editNumber answer ⌝ }
+{
+    match answer {
+        EditAnswer::Accepted => 0,
+        EditAnswer::Empty => 7,
+        EditAnswer::Full => 8,
+        EditAnswer::BadCut => 9,
+        EditAnswer::DropsPrimary => 10,
+        EditAnswer::NothingStands => 11,
+    }
+}
+
+// `a - b`, and 0 where that would be below 0.
+fn less(a: u32, b: u32) -> u32
+    ensures { λ r. ⌜ r ≡ a - b ⌝ }
+{
+    if b <= a { a - b } else { 0 }
+}
+
+// A point of the frame, after a clockwise quarter rotation.
+fn turned_point(frame: Size, point: FocusPoint) -> FocusPoint
+    ensures { λ r. ⌜ r ≡ turnedPoint frame point ⌝ }
+{
+    let from = point.center;
+    let area = point.size;
+    let in_focus = point.in_focus;
+    let center = Point {
+        x: less(frame.height, from.y),
+        y: from.x,
+    };
+    let size = Size {
+        width: area.height,
+        height: area.width,
+    };
+    FocusPoint {
+        number: point.number,
+        center,
+        size,
+        in_focus,
+    }
+}
+
+// A point of the frame, with left and right exchanged.
+fn mirrored_point(frame: Size, point: FocusPoint) -> FocusPoint
+    ensures { λ r. ⌜ r ≡ mirroredPoint frame point ⌝ }
+{
+    let from = point.center;
+    let size = point.size;
+    let in_focus = point.in_focus;
+    let center = Point {
+        x: less(frame.width, from.x),
+        y: from.y,
+    };
+    FocusPoint {
+        number: point.number,
+        center,
+        size,
+        in_focus,
+    }
+}
+
+// A point measured from `left` and `top`, a coordinate that lies before them as 0.
+fn shifted_point(left: u32, top: u32, point: FocusPoint) -> FocusPoint
+    ensures { λ r. ⌜ r ≡ shiftedPoint left top point ⌝ }
+{
+    let from = point.center;
+    let size = point.size;
+    let in_focus = point.in_focus;
+    let center = Point {
+        x: less(from.x, left),
+        y: less(from.y, top),
+    };
+    FocusPoint {
+        number: point.number,
+        center,
+        size,
+        in_focus,
+    }
+}
+
+// Whether a point lies on the rectangle of a cut.
+fn stays_on(left: u32, top: u32, width: u32, height: u32, point: FocusPoint) -> bool
+    ensures { λ r. ⌜ r ≡ staysOn left top width height point ⌝ }
+{
+    let center = point.center;
+    if center.x < left {
+        return false;
+    }
+    if center.y < top {
+        return false;
+    }
+    let frame = Size { width, height };
+    placing::focus::point_fits(frame, shifted_point(left, top, point))
+}
+
+// A point after a cut: a point that was dropped stays so.
+fn cut_point(left: u32, top: u32, width: u32, height: u32, place: Carried) -> Carried
+    ensures { λ r. ⌜ r ≡ cutPoint left top width height place ⌝ }
+{
+    let from = place.point;
+    let stays = stays_on(left, top, width, height, from);
+    let point = shifted_point(left, top, from);
+    let frame = Size { width, height };
+    Carried {
+        listed: place.listed & stays,
+        point,
+        frame,
+    }
+}
+
+// A point and its frame, moved by one edit.
+pub fn move_by(edit: Edit, place: Carried) -> Carried
+    ensures { λ r. ⌜ r ≡ moved edit place ⌝ }
+{
+    let from = place.point;
+    let frame = place.frame;
+    match edit {
+        Edit::Turn => {
+            let point = turned_point(frame, from);
+            Carried {
+                listed: place.listed,
+                point,
+                frame: Size {
+                    width: frame.height,
+                    height: frame.width,
+                },
+            }
+        }
+        Edit::Mirror => {
+            let point = mirrored_point(frame, from);
+            Carried {
+                listed: place.listed,
+                point,
+                frame,
+            }
+        }
+        Edit::Cut {
+            left,
+            top,
+            width,
+            height,
+        } => cut_point(left, top, width, height, place),
+    }
+}
+
+// Whether `side` pixels from `start` on end within `limit`.
+fn span_passes(start: u32, side: u32, limit: u32) -> bool
+    ensures { λ r. ⌜ r ≡ leb (start + side) limit ⌝ }
+{
+    start as u64 + side as u64 <= limit as u64
+}
+
+// Whether a cut has no zero side and stays inside the frame.
+pub fn cut_passes(left: u32, top: u32, width: u32, height: u32, frame: Size) -> bool
+    ensures { λ r. ⌜ r ≡ cutPasses left top width height frame ⌝ }
+{
+    if width == 0 {
+        return false;
+    }
+    if height == 0 {
+        return false;
+    }
+    span_passes(left, width, frame.width) && span_passes(top, height, frame.height)
+}
+
+// An edit in five words.
+pub fn words_of(edit: Edit) -> [u32; 5]
+    ensures { λ r. ⌜ r ≡ wordsOf edit ⌝ }
+{
+    match edit {
+        Edit::Turn => [0, 0, 0, 0, 0],
+        Edit::Mirror => [1, 0, 0, 0, 0],
+        Edit::Cut {
+            left,
+            top,
+            width,
+            height,
+        } => [2, left, top, width, height],
+    }
+}
+
+// The edit at an index of a row of words.
+fn edit_at(words: &[u32; 320], i: usize) -> Edit
+    requires { ⌜ i < 64 ⌝ }
+    ensures { λ r. ⌜ r ≡ editAt (now (words .entry)) i ⌝ }
+{
+    let at = i * 5;
+    let kind = words[at];
+    if kind == 0 {
+        return Edit::Turn;
+    }
+    if kind == 1 {
+        return Edit::Mirror;
+    }
+    let left = words[at + 1];
+    let top = words[at + 2];
+    let width = words[at + 3];
+    let height = words[at + 4];
+    Edit::Cut {
+        left,
+        top,
+        width,
+        height,
+    }
+}
+
+// The place of a point of the frame after the first n edits: its place after one less, moved by the last of them.
+fn place(frame: Size, point: FocusPoint, words: &[u32; 320], n: usize) -> Carried
+    requires { ⌜ n ≤ 64 ⌝ }
+    ensures { λ r. ⌜ r ≡ placed frame point (now (words .entry)) n ⌝ }
+{
+    if n == 0 {
+        return Carried {
+            listed: true,
+            point,
+            frame,
+        };
+    }
+    let m = n - 1;
+    let before = place(frame, point, words, m);
+    let edit = edit_at(words, m);
+    move_by(edit, before)
+}
+
+// The place of a point of the frame after the first n edits; after 64, which is all that the words hold, where there are to be more.
+pub fn place_after(frame: Size, point: FocusPoint, words: &[u32; 320], n: usize) -> Carried
+    ensures { λ r. ⌜ r ≡ placed frame point (now (words .entry)) (min n 64) ⌝ }
+{
+    if 64 < n {
+        return place(frame, point, words, 64);
+    }
+    place(frame, point, words, n)
+}
