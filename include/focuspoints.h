@@ -30,14 +30,14 @@ extern "C" {
 
 /* What focuspoints_photograph and focuspoints_contents return. The lowest
  * number that applies is returned. */
-#define FOCUSPOINTS_OK 0u         /* the result is in `out` */
-#define FOCUSPOINTS_UNREADABLE 1u /* the block is under 8 or over 1,048,576 bytes, has a bad header, or its directory passes its end */
-#define FOCUSPOINTS_MISSING 2u    /* no focus record: tag 00B7 is absent or not of type 7 */
-#define FOCUSPOINTS_MANUAL 3u     /* focused by hand */
-#define FOCUSPOINTS_UNUSABLE 4u   /* the record is damaged, too short, or of unknown version */
-#define FOCUSPOINTS_UNPLACED 5u   /* the recorded position cannot be placed */
-#define FOCUSPOINTS_UNNAMED 6u    /* no recorded position, and the named points cannot be placed */
-#define FOCUSPOINTS_SHORT 13u     /* `out` has too few places */
+#define FOCUSPOINTS_OK 0u                    /* the result is in `out` */
+#define FOCUSPOINTS_UNREADABLE 1u            /* the block is under 8 or over 1,048,576 bytes, has a bad header, or its directory passes its end */
+#define FOCUSPOINTS_NO_RECORD 2u             /* no focus record: tag 00B7 is absent or not of type 7 */
+#define FOCUSPOINTS_MANUAL_FOCUS 3u          /* focused by hand */
+#define FOCUSPOINTS_BAD_RECORD 4u            /* the record is damaged, too short, or of unknown version */
+#define FOCUSPOINTS_POSITION_UNPLACED 5u     /* the recorded position cannot be placed */
+#define FOCUSPOINTS_NAMES_UNPLACED 6u        /* no recorded position, and the named points cannot be placed */
+#define FOCUSPOINTS_SHORT 13u                /* `out` has too few places */
 
 /* Places of `out`. */
 #define FOCUSPOINTS_HEAD 6u       /* numbers of a listing's head */

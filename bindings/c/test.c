@@ -88,7 +88,7 @@ static void photograph(void)
     /* Refusals come before the buffer's length. */
     mark();
     EXPECT(PHOTOGRAPH(note, 7, out, 1000) == FOCUSPOINTS_UNREADABLE && kept(0));
-    EXPECT(PHOTOGRAPH(none, sizeof none, out, 0) == FOCUSPOINTS_MISSING && kept(0));
+    EXPECT(PHOTOGRAPH(none, sizeof none, out, 0) == FOCUSPOINTS_NO_RECORD && kept(0));
     memcpy(longest, note, sizeof note);
     EXPECT(PHOTOGRAPH(longest, sizeof longest, out, 1000) == FOCUSPOINTS_UNREADABLE && kept(0));
     EXPECT(PHOTOGRAPH(longest, sizeof longest - 1, out, 1000) == FOCUSPOINTS_OK && kept(18));
@@ -96,19 +96,19 @@ static void photograph(void)
     mark();
     memcpy(block, note, sizeof note);
     block[22] = '9'; /* a version that is not known */
-    EXPECT(PHOTOGRAPH(block, sizeof block, out, 1000) == FOCUSPOINTS_UNUSABLE && kept(0));
+    EXPECT(PHOTOGRAPH(block, sizeof block, out, 1000) == FOCUSPOINTS_BAD_RECORD && kept(0));
     memcpy(block, note, sizeof note);
     memcpy(block + 38, "\x17\x80\x0F\xB0\0\x64\x07\xD0\0\xC9\0\xC8", 12); /* in 6016 by 4016, at (100, 2000), 201 by 200 */
-    EXPECT(PHOTOGRAPH(block, sizeof block, out, 1000) == FOCUSPOINTS_UNPLACED && kept(0));
+    EXPECT(PHOTOGRAPH(block, sizeof block, out, 1000) == FOCUSPOINTS_POSITION_UNPLACED && kept(0));
     block[47] = 0xC8; /* 200 wide: its left edge is that of the frame */
     EXPECT(PHOTOGRAPH(block, sizeof block, out, 12) == FOCUSPOINTS_OK && out[5] == 1 && out[7] == 100 && kept(12));
     mark();
-    EXPECT(PHOTOGRAPH(manual, sizeof manual, out, 1000) == FOCUSPOINTS_MANUAL && kept(0));
+    EXPECT(PHOTOGRAPH(manual, sizeof manual, out, 1000) == FOCUSPOINTS_MANUAL_FOCUS && kept(0));
     memcpy(block, note, sizeof note);
     block[29] = 0; /* primary 0 */
-    EXPECT(PHOTOGRAPH(block, sizeof block, out, 1000) == FOCUSPOINTS_UNNAMED && kept(0));
-    EXPECT(focuspoints_photograph(note, sizeof note, 0, 0, 0, 0, 0, 0, BYTES("NIKON D60"), out, 1000) == FOCUSPOINTS_UNNAMED);
-    EXPECT(focuspoints_photograph(note, sizeof note, 0, 0, 0, 0, 0, 0, BYTES(""), out, 1000) == FOCUSPOINTS_UNNAMED && kept(0));
+    EXPECT(PHOTOGRAPH(block, sizeof block, out, 1000) == FOCUSPOINTS_NAMES_UNPLACED && kept(0));
+    EXPECT(focuspoints_photograph(note, sizeof note, 0, 0, 0, 0, 0, 0, BYTES("NIKON D60"), out, 1000) == FOCUSPOINTS_NAMES_UNPLACED);
+    EXPECT(focuspoints_photograph(note, sizeof note, 0, 0, 0, 0, 0, 0, BYTES(""), out, 1000) == FOCUSPOINTS_NAMES_UNPLACED && kept(0));
 
     /* A size whose given number is 0 is not looked at; any other number gives it. */
     for (uint32_t given = 0; given < 4; given++) {

@@ -99,15 +99,15 @@ pub enum Refusal {
     /// The block is under 8 or over 1,048,576 bytes, has a bad header, or its directory passes its end.
     Unreadable = 1,
     /// No focus record: tag 00B7 is absent or not of type 7.
-    Missing = 2,
+    NoRecord = 2,
     /// Focused by hand.
-    Manual = 3,
+    ManualFocus = 3,
     /// The record is damaged, too short, or of unknown version.
-    Unusable = 4,
+    BadRecord = 4,
     /// The recorded position cannot be placed.
-    Unplaced = 5,
+    PositionUnplaced = 5,
     /// No recorded position, and the named points cannot be placed.
-    Unnamed = 6,
+    NamesUnplaced = 6,
     /// The buffer has too few places.
     Short = 13,
 }
@@ -122,11 +122,11 @@ impl Refusal {
         Err(match number {
             0 => return Ok(()),
             1 => Refusal::Unreadable,
-            2 => Refusal::Missing,
-            3 => Refusal::Manual,
-            4 => Refusal::Unusable,
-            5 => Refusal::Unplaced,
-            6 => Refusal::Unnamed,
+            2 => Refusal::NoRecord,
+            3 => Refusal::ManualFocus,
+            4 => Refusal::BadRecord,
+            5 => Refusal::PositionUnplaced,
+            6 => Refusal::NamesUnplaced,
             13 => Refusal::Short,
             _ => unreachable!("the library's contract has no number {number}"),
         })
@@ -137,11 +137,11 @@ impl fmt::Display for Refusal {
     fn fmt(&self, f: &mut fmt::Formatter<'_>) -> fmt::Result {
         f.write_str(match self {
             Refusal::Unreadable => "the block cannot be read",
-            Refusal::Missing => "there is no focus record",
-            Refusal::Manual => "focused by hand",
-            Refusal::Unusable => "the focus record cannot be used",
-            Refusal::Unplaced => "the recorded position cannot be placed",
-            Refusal::Unnamed => "the named points cannot be placed",
+            Refusal::NoRecord => "there is no focus record",
+            Refusal::ManualFocus => "focused by hand",
+            Refusal::BadRecord => "the focus record cannot be used",
+            Refusal::PositionUnplaced => "the recorded position cannot be placed",
+            Refusal::NamesUnplaced => "the named points cannot be placed",
             Refusal::Short => "the buffer is too short",
         })
     }

@@ -68,11 +68,11 @@ fn refused() -> Vec<(Vec<u8>, Refusal)> {
     vec![
         (whole_case()[..7].to_vec(), Refusal::Unreadable),
         (Vec::new(), Refusal::Unreadable),
-        (block_of(&[(7, 2, 5, b"AF-S\0")]), Refusal::Missing),
-        (block_of(&[(7, 2, 9, b" MANUAL \0"), (0xB7, 7, 30, &r)]), Refusal::Manual),
-        (block_of(&[(0xB7, 7, 29, &short)]), Refusal::Unusable),
-        (block_of(&[(0xB7, 7, 84, &outside)]), Refusal::Unplaced),
-        (named(0, [1, 0]), Refusal::Unnamed),
+        (block_of(&[(7, 2, 5, b"AF-S\0")]), Refusal::NoRecord),
+        (block_of(&[(7, 2, 9, b" MANUAL \0"), (0xB7, 7, 30, &r)]), Refusal::ManualFocus),
+        (block_of(&[(0xB7, 7, 29, &short)]), Refusal::BadRecord),
+        (block_of(&[(0xB7, 7, 84, &outside)]), Refusal::PositionUnplaced),
+        (named(0, [1, 0]), Refusal::NamesUnplaced),
     ]
 }
 
@@ -168,7 +168,7 @@ fn sizes_are_missing_or_given() {
     let block = block_of(&[(0x1B, 3, 7, &crop), (0xB7, 7, 84, &r)]);
     assert_eq!(
         photograph(&block, None, Some(Size { width: 0, height: 2008 }), MODEL),
-        Err(Refusal::Unplaced)
+        Err(Refusal::PositionUnplaced)
     );
     assert_eq!(
         photograph(&block, None, None, MODEL).unwrap().frame,
@@ -182,7 +182,7 @@ fn sizes_are_missing_or_given() {
 #[test]
 fn slices_of_length_0() {
     assert_eq!(photograph_into(&[], None, None, &[], &mut []), Err(Refusal::Unreadable));
-    assert_eq!(photograph_into(&whole_case(), None, None, &[], &mut []), Err(Refusal::Unnamed));
+    assert_eq!(photograph_into(&whole_case(), None, None, &[], &mut []), Err(Refusal::NamesUnplaced));
     assert_eq!(photograph_into(&whole_case(), None, None, MODEL, &mut []), Err(Refusal::Short));
     assert_eq!(contents_into(&[], &mut []), Err(Refusal::Unreadable));
     assert_eq!(contents_into(&whole_case(), &mut []), Err(Refusal::Short));

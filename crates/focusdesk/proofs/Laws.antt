@@ -26,7 +26,7 @@ use Rattle.stream.specs.Stream.{lastText, Taken, Feeds}
 use Rattle.stream.proofs.Laws.{taken-none, taken-join, rest-all, take-least, progress}
 use Rattle.focusdesk.specs.declared.After.{After}
 use Rattle.focusdesk.specs.declared.Once.{Once}
-use Rattle.focusdesk.specs.Served.{ServesOnce, Serves, came, Interrupts, after, ReadsOnce}
+use Rattle.focusdesk.specs.Served.{ServesOnce, Serves, came, Interrupts, afterRead, ReadsOnce}
 
 false-true : {A : Type 0} → false ≡ true → A
 false-true z =
@@ -85,7 +85,7 @@ module _ {s : Sheet} {l₀ h l l₁ o₁ : List ℕ} {r r₁ : Once} (input : Li
 
 module _ {s : Sheet} {l₀ h l : List ℕ} {r : Once} (input : List ℕ) (i : ℕ) (p : Serving s l₀ h input l r i) where
   -- all of the part is used
-  pub serves-all : length input ≤ i → Serves s l₀ h input l (after (r .sheet) (r .held) true)
+  pub serves-all : length input ≤ i → Serves s l₀ h input l (afterRead (r .sheet) (r .held) true)
   serves-all f =
       record {
         used = i;
@@ -93,12 +93,13 @@ module _ {s : Sheet} {l₀ h l : List ℕ} {r : Once} (input : List ℕ) (i : �
         used-part = p .used-part;
         used-some = λ z. omega (arith, z, f);
         used-all = λ z. omega (arith, f, p .used-part);
+        goes-on = refl;
       }
 
   -- a write has failed, after some of it
-  pub serves-some : 0 < i → Serves s l₀ h input l (after (r .sheet) (r .held) false)
+  pub serves-some : 0 < i → Serves s l₀ h input l (record { sheet = r .sheet; held = r .held; sent = false; more = false })
   serves-some f =
-      record { used = i; taken = p .taken; used-part = p .used-part; used-some = λ z. f; used-all = λ z. false-true z }
+      record { used = i; taken = p .taken; used-part = p .used-part; used-some = λ z. f; used-all = λ z. false-true z; goes-on = refl }
 
 -- ---- a read, which answered `got`. The program tests its bits, `ofZ w64 got`
 failed-read : (got : ℤ) (b : Bool) → ltZ got (pos 0) ≡ true → Interrupts got b
@@ -112,14 +113,14 @@ other-read (negsuc k) h = tt
 other-read (pos k) h = refl
 
 module _ (b : Bool) (s : Sheet) (l : List ℕ) (n : ℕ) (input o : List ℕ) where
-  failed : (got : ℤ) → ltZ got (pos 0) ≡ true → ReadsOnce got b s l n input o l o (after s n b)
+  failed : (got : ℤ) → ltZ got (pos 0) ≡ true → ReadsOnce got b s l n input o l o (afterRead s n b)
   unfolding ReadsOnce
   failed (negsuc k) h = (refl, refl, refl)
   failed (pos k) h = absurd (omega (arith, ltb-true k 0 h))
 
   module _ (o₁ : List ℕ) where
     ended : (got : ℤ) → ltZ got (pos 0) ≡ false → ofZ w64 got ≡ 0 → o₁ ≡ sets o 0 (lastText s (take n l))
-        → ReadsOnce got b s l n input o l o₁ (after s 0 false)
+        → ReadsOnce got b s l n input o l o₁ (afterRead s 0 false)
     unfolding ReadsOnce
     ended (negsuc k) h z e = false-true (sym h)
     ended (pos zero) h z e = (refl, refl, e)
@@ -140,12 +141,12 @@ module _ (got : ℤ) (f : SFits w64 got) where
   interrupted-none h = other-read got (rw (toZ-ofZ w64 got f) at h)
 
   module _ (b : Bool) (s : Sheet) (l : List ℕ) (n : ℕ) (input o : List ℕ) where
-    pub reads-failed : ltZ (toZ w64 (ofZ w64 got)) (pos 0) ≡ true → ReadsOnce got b s l n input o l o (after s n b)
+    pub reads-failed : ltZ (toZ w64 (ofZ w64 got)) (pos 0) ≡ true → ReadsOnce got b s l n input o l o (afterRead s n b)
     reads-failed h = failed b s l n input o got (rw (toZ-ofZ w64 got f) at h)
 
     -- the input has ended
     pub reads-end : (o₁ : List ℕ) → ltZ (toZ w64 (ofZ w64 got)) (pos 0) ≡ false → ofZ w64 got ≡ 0
-        → o₁ ≡ sets o 0 (lastText s (take n l)) → ReadsOnce got b s l n input o l o₁ (after s 0 false)
+        → o₁ ≡ sets o 0 (lastText s (take n l)) → ReadsOnce got b s l n input o l o₁ (afterRead s 0 false)
     reads-end o₁ h = ended b s l n input o o₁ got (rw (toZ-ofZ w64 got f) at h)
 
     -- bytes came: as many of the buffer are served as the read answered
@@ -155,10 +156,11 @@ module _ (got : ℤ) (f : SFits w64 got) where
     reads-some l₁ o₁ r k h z e =
         some b s l n input o o₁ l₁ r got k (rw (toZ-ofZ w64 got f) at h) z (rw (toZ-ofZ w64 got f) at e)
 
--- ---- all reads: after one more, after which there may be more, just the bytes that came are added to `all`
+-- ---- all reads: before the first one
 pub running-none : (s : Sheet) (l : List ℕ) → s ≡ freshSheet → Taken freshSheet l [] [] s l 0
 running-none s l e = rw e (taken-none freshSheet l 0 refl)
 
+-- after one more, after which there may be more, just the bytes that came are added to `all`
 pub running-more : (got : ℤ) (b : Bool) (input o : List ℕ) {all l₀ l : List ℕ} {s : Sheet} {n : ℕ} (l₁ o₁ : List ℕ) (r : After)
     → Taken freshSheet l₀ [] all s l n → ReadsOnce got b s l n input o l₁ o₁ r → not (r .more) ≡ false
     → Taken freshSheet l₀ [] (all ++ came got input) (r .sheet) l₁ (r .held)

@@ -1,7 +1,8 @@
 // The program: reads call lines from standard input, of any length and in any pieces, and writes the answers to standard output. What
 // has come is answered before more is read. No contract can speak of a file descriptor: proved is what is made of a read (`after_read`)
-// and which bytes are handed to a write (`serve_once`, `finish`). That `main` hands on what it has read, and that what is handed to a
-// write goes out, is tested (tools/pipe-test and tools/reference/compare-lines run the program, and `stdout` holds 01's whole case).
+// and which bytes of the buffer, the first ones, are the text for a write (`serve_once`, `finish`). That they are handed to it and go
+// out, that only a write that fails stops the serving, and that a signal is told from other failures, is tested (tools/pipe-test and
+// tools/reference/compare-lines run the program, and `stdout` holds 01's whole case).
 use libc::STDIN_FILENO;
 use libc::STDOUT_FILENO;
 use sheet::Sheet;
@@ -14,10 +15,12 @@ ghost use Rattle.session.specs.Answering.{mostText};
 ghost use Rattle.stream.specs.Stream.{lineRoom, lastText};
 ghost use Rattle.focusdesk.specs.Served.{ServesOnce, Serves, Interrupts, ReadsOnce};
 
-// What a read leaves: the sheet, how much of a line is held, and whether there may be more to read and to write.
+// What a read leaves: the sheet, how much of a line is held, whether every write of a served part went out, and whether there may be
+// more to read.
 struct After {
     sheet: Sheet,
     held: usize,
+    sent: bool,
     more: bool,
 }
 
@@ -107,6 +110,7 @@ fn serve(
             return After {
                 sheet: after,
                 held: once.held,
+                sent: false,
                 more: false,
             };
         }
@@ -116,6 +120,7 @@ fn serve(
     After {
         sheet: after,
         held: once.held,
+        sent: true,
         more: true,
     }
 }
@@ -160,6 +165,7 @@ fn after_read(
         return After {
             sheet,
             held,
+            sent: true,
             more: interrupted,
         };
     }
@@ -168,6 +174,7 @@ fn after_read(
         return After {
             sheet,
             held: 0,
+            sent: true,
             more: false,
         };
     }
@@ -186,6 +193,7 @@ fn main() {
     let mut after = After {
         sheet,
         held: 0,
+        sent: true,
         more: true,
     };
     let mut reads = u64::MAX;

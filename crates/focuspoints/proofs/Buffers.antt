@@ -14,7 +14,7 @@ use borrow.Rule.Slice.PartMut.{putMid, postOf}
 use Rattle.reading.specs.Focus.{modeNumber}
 use Rattle.placing.specs.declared.focus.FocusPoint.{FocusPoint}
 use Rattle.placing.specs.Load.{originNumber}
-use Rattle.sheet.specs.declared.listing.Listing.{Listing}
+use Rattle.sheet.specs.declared.listing.ListHead.{ListHead}
 use Rattle.sheet.specs.Listing.{flat, over, headNumbers, hasRoom, withPoints}
 use Rattle.sheet.proofs.Buffer.{no-room, has-room}
 use Rattle.focuspoints.specs.Buffer.{roomNumber, withNumbers}
@@ -23,11 +23,11 @@ pub laid : (vs l : List ℕ) → length vs ≤ length l → sets l 0 vs ≡ over
 laid vs l h = sets-eq vs l 0 (rw (zero-add (length vs)) h) ∙ rw (zero-add (length vs))
 
 -- ---- a listing's head
-head-length : (x : Listing) → length (headNumbers x) ≡ 6
+head-length : (x : ListHead) → length (headNumbers x) ≡ 6
 unfolding headNumbers
 head-length x = refl
 
-pub head-stores : (l : List ℕ) (x : Listing) (m o : ℕ) → m ≡ modeNumber (x .mode) → o ≡ originNumber (x .origin) → 6 ≤ length l →
+pub head-stores : (l : List ℕ) (x : ListHead) (m o : ℕ) → m ≡ modeNumber (x .mode) → o ≡ originNumber (x .origin) → 6 ≤ length l →
     set (set (set (set (set (set l 0 (x .frame .width)) 1 (x .frame .height)) 2 (x .count)) 3 (x .index)) 4 m) 5 o
     ≡ over (headNumbers x) l
 unfolding headNumbers
@@ -68,7 +68,7 @@ module _ (ps : List FocusPoint) (n : ℕ) (small : n ≤ 39) (l : List ℕ) (six
       rw (none-after l, append-nil ys, k .1) (take-append-drop 6 l) in
       rw e (too-short (6 + 6 * n) vs l (omega (arith, length-drop 6 l, k .0)))
 
-  pub points-written : not w ≡ false → (x : Listing) (l′ : List ℕ) → l′ ≡ over (headNumbers x) (putMid 6 (length l - 6) l ys)
+  pub points-written : not w ≡ false → (x : ListHead) (l′ : List ℕ) → l′ ≡ over (headNumbers x) (putMid 6 (length l - 6) l ys)
       → (0 ≡ roomNumber (6 + 6 * n) (length l)) × (l′ ≡ withNumbers (6 + 6 * n) (headNumbers x ++ flat (take n ps)) l)
   points-written t x l′ e =
       let k = has-room ps n small (drop 6 l) ys w behind t in

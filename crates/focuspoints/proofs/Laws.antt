@@ -18,7 +18,7 @@ use Rattle.placing.proofs.Sound.{focus-sound}
 use Rattle.placing.proofs.Numbers.{Numbered, number, numbered-load}
 use Rattle.focuspoints.specs.Buffer.{roomNumber, withNumbers}
 use Rattle.focuspoints.specs.Photograph.{listingLength, photographNumber, photographBuffer}
-use Rattle.focuspoints.specs.Laws.{ListsTheLoad, FewNumbers, RoomEnough, RefusedKeeps}
+use Rattle.focuspoints.specs.Laws.{ListsTheLoad, FewNumbers, RoomEnough, PhotographKeeps}
 use Rattle.focuspoints.proofs.Listing.{whole-listing, whole-length}
 
 pub lists-the-load : ListsTheLoad
@@ -57,5 +57,5 @@ keeps (accepted f) out z =
     (λ (h : ltb (length out) (listingLength f) ≡ false). absurd (z (rw h)))
     (by-bool (ltb (length out) (listingLength f)))
 
-pub refused-keeps : RefusedKeeps
+pub refused-keeps : PhotographKeeps
 refused-keeps block raw picture model out z = keeps (focusOf block raw picture model) out z

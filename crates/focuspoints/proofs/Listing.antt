@@ -17,7 +17,8 @@ use Rattle.placing.specs.declared.load.FocusPoints.{FocusPoints}
 use Rattle.placing.specs.declared.load.Refusal.{Refusal}
 use Rattle.placing.specs.declared.load.FocusAnswer.the-variants.{Accepted, Refused}
 use Rattle.placing.specs.Focus.{focusOf}
-use Rattle.placing.specs.Load.{Focus, Laid, originNumber, refusalNumber, focusMeans, laidOut}
+use Rattle.placing.specs.Load.{Focus, originNumber}
+use Rattle.placing.specs.Laid.{Laid, refusalNumber, focusMeans, laidOut}
 use Rattle.placing.specs.Sound.{SoundFocus}
 use Rattle.placing.proofs.Sound.{focus-sound}
 use Rattle.sheet.specs.Listing.{headNumbers}
@@ -28,15 +29,15 @@ use Rattle.placing.proofs.Means.{IsLaid, when-refused, when-accepted}
 use Rattle.journal.proofs.Placed.{flat-numbers}
 use Rattle.focuspoints.specs.Buffer.{roomNumber, withNumbers}
 use Rattle.focuspoints.specs.Inside.{laidNumbers}
-use Rattle.focuspoints.specs.Photograph.{sizeOf, listingOf, listingLength, photographNumber, photographBuffer}
+use Rattle.focuspoints.specs.Photograph.{givenSize, listingOf, listingLength, photographNumber, photographBuffer}
 
 -- ---- sizes
-pub size-missing : (g w h : ℕ) → g ≡ 0 → Missing ≡ sizeOf g w h
-unfolding sizeOf
+pub size-missing : (g w h : ℕ) → g ≡ 0 → Missing ≡ givenSize g w h
+unfolding givenSize
 size-missing g w h e = rw (eq-eqb g 0 e)
 
-pub size-given : (g w h : ℕ) → (g ≡ 0 → ⊥) → Given (record { width = w; height = h }) ≡ sizeOf g w h
-unfolding sizeOf
+pub size-given : (g w h : ℕ) → (g ≡ 0 → ⊥) → Given (record { width = w; height = h }) ≡ givenSize g w h
+unfolding givenSize
 size-given g w h e = rw (ne-eqb g 0 e)
 
 -- ---- a load without edits lists its points

@@ -2,7 +2,7 @@
 use Prim.Native.Nat.{ℕ}
 use mathlib.Core.List.{List, _++_}
 use lib.ListN.{take}
-use Rattle.placing.specs.Load.{Laid}
+use Rattle.placing.specs.Laid.{Laid}
 use Rattle.sheet.specs.Listing.{headNumbers, flat}
 
 -- the numbers of a load's listing as the code lays them out: the head, and the points' numbers

@@ -36,8 +36,8 @@ RoomEnough =
     photographNumber (focusOf block raw picture model) room ≤ 6
 
 -- a number that is not 0 keeps the buffer
-abbrev pub RefusedKeeps : Type 0
-RefusedKeeps =
+abbrev pub PhotographKeeps : Type 0
+PhotographKeeps =
     (block : List ℕ) (raw picture : OptionalSize) (model out : List ℕ) →
     (photographNumber (focusOf block raw picture model) (length out) ≡ 0 → ⊥) →
     photographBuffer (focusOf block raw picture model) out ≡ out

@@ -14,8 +14,8 @@ use Rattle.journal.specs.Journal.{presentFrame, listing, head, numbers}
 use Rattle.focuspoints.specs.Buffer.{roomNumber, withNumbers}
 
 -- "raw and picture sizes (each may be missing)": a size is missing where its first number is 0, and then its sides are not looked at
-unfoldable pub sizeOf : ℕ → ℕ → ℕ → OptionalSize
-sizeOf given width height = cond (eqb given 0) Missing (Given (record { width = width; height = height }))
+unfoldable pub givenSize : ℕ → ℕ → ℕ → OptionalSize
+givenSize given width height = cond (eqb given 0) Missing (Given (record { width = width; height = height }))
 
 -- "frame, count, primary's index from 0, mode .., origin", and then "six 32-bit numbers a point", of a load with no edits
 unfoldable pub listingOf : Focus → List ℕ

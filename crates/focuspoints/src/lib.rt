@@ -6,7 +6,7 @@ use reading::geometry::OptionalSize;
 use reading::geometry::Size;
 use reading::nikon::ContentsAnswer;
 use script::Answered;
-use sheet::listing::Listing;
+use sheet::listing::ListHead;
 ghost use mathlib.Core.Path.{_≡_};
 ghost use mathlib.Core.List.{_∷_};
 ghost use Prim.Native.Nat.{_+_, _*_, _≤_};
@@ -16,16 +16,16 @@ ghost use Rattle.reading.specs.Contents.{contentsOf};
 ghost use Rattle.placing.specs.Focus.{focusOf};
 ghost use Rattle.sheet.specs.Listing.{over, headNumbers};
 ghost use Rattle.script.specs.Script.{scriptText, bufferWith};
-ghost use Rattle.focuspoints.specs.Photograph.{sizeOf, Photographed};
+ghost use Rattle.focuspoints.specs.Photograph.{givenSize, Photographed};
 ghost use Rattle.focuspoints.specs.Script.{scriptLength};
 ghost use Rattle.focuspoints.specs.Contents.{contentsNumberOf, contentsBufferOf, Tells};
 ghost use Rattle.focuspoints.specs.Buffer.{roomNumber, withNumbers};
 ghost use Rattle.focuspoints.specs.Inside.{laidNumbers};
-ghost use Rattle.placing.specs.Load.{focusMeans};
+ghost use Rattle.placing.specs.Laid.{focusMeans};
 
 // A size that is given where the first number is not 0.
 fn size_of(given: u32, width: u32, height: u32) -> OptionalSize
-    ensures { λ r. ⌜ r ≡ sizeOf given width height ⌝ }
+    ensures { λ r. ⌜ r ≡ givenSize given width height ⌝ }
 {
     if given == 0 {
         return OptionalSize::Missing;
@@ -34,7 +34,7 @@ fn size_of(given: u32, width: u32, height: u32) -> OptionalSize
 }
 
 // Writes the six numbers of a listing's head at the buffer's front.
-fn put_head(l: Listing, out: &mut [u32])
+fn put_head(l: ListHead, out: &mut [u32])
     requires { ⌜ (l .count ≤ 39) × (l .index ≤ 39) × (6 ≤ length (now out)) ⌝ }
     ensures { λ _. ⌜ now (out .exit) ≡ over (headNumbers l) (now (out .entry)) ⌝ }
 {
@@ -65,7 +65,7 @@ fn put_listing(focus: FocusPoints, out: &mut [u32]) -> u32
     let frame = focus.frame;
     let mode = focus.area_mode;
     let origin = focus.origin;
-    let head = Listing {
+    let head = ListHead {
         frame,
         count,
         index: focus.primary,
@@ -89,7 +89,7 @@ pub extern "C" fn focuspoints_photograph(
     model: &[u8],
     out: &mut [u32],
 ) -> u32
-    ensures { λ r. ⌜ Photographed (focusOf (now (block .entry)) (sizeOf «raw_given» «raw_width» «raw_height») (sizeOf «picture_given» «picture_width» «picture_height») (now (model .entry))) (now (out .entry)) r (now (out .exit)) ⌝ }
+    ensures { λ r. ⌜ Photographed (focusOf (now (block .entry)) (givenSize «raw_given» «raw_width» «raw_height») (givenSize «picture_given» «picture_width» «picture_height») (now (model .entry))) (now (out .entry)) r (now (out .exit)) ⌝ }
 {
     let raw = size_of(raw_given, raw_width, raw_height);
     let picture = size_of(picture_given, picture_width, picture_height);

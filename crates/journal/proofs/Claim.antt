@@ -34,7 +34,7 @@ use Rattle.sheet.specs.Lists.{listed as listedOf, listCount, listIndex, isShort
 use Rattle.sheet.proofs.Buffer.{flat-length}
 use Rattle.placing.proofs.Places.{length-places, take-places}
 use Rattle.sheet.proofs.Words.{stored-last}
-use Rattle.journal.specs.Journal.{Change, cut, turn, mirror, Journal, empty, holds, frameAfter, isListed, listed, presentFrame, listing, indexOf, primaryAfter, fitted, Answer, no, ok, ended, head, isBadCut, isFull, changeRefusal, backRefusal, journalLoad, journalChange, journalBack, numbers, written, journalList, journalFit}
+use Rattle.journal.specs.Journal.{Change, cut, turn, mirror, Journal, empty, holds, frameAfter, stillListed, listed, presentFrame, listing, primaryIndex, primaryAfter, fitted, Answer, no, ok, ended, head, isBadCut, isFull, changeRefusal, backRefusal, journalLoad, journalChange, journalBack, numbers, written, journalList, journalFit}
 use Rattle.journal.specs.Calls.{Call, load, change, back, list, fit, journalStep, runJournal}
 use Rattle.journal.specs.SheetCalls.{numbered, afterEdit, afterList, changed, sheetStep, runSheet}
 use Rattle.journal.specs.Claim.{Claim}
@@ -148,22 +148,22 @@ bad-cut s l t w h =
     by false false false true = refl
     by false false false false = refl
 
-is-listed : (q : Carried) → isListed (pointOf q) ≡ q .listed
+is-listed : (q : Carried) → stillListed (pointOf q) ≡ q .listed
 is-listed q = by (q .listed)
   where
-    by : (b : Bool) → isListed (cond b (some (q .point)) none) ≡ b
+    by : (b : Bool) → stillListed (cond b (some (q .point)) none) ≡ b
     by true = refl
     by false = refl
 
 primary-stays : (s : Sheet) (h : Held s) (e : Edit)
-    → isListed (primaryAfter (loadOf s) (rowOf s ++ changeOf e ∷ [])) ≡ keepsPrimary s e
+    → stillListed (primaryAfter (loadOf s) (rowOf s ++ changeOf e ∷ [])) ≡ keepsPrimary s e
 unfolding keepsPrimary placedAt
 primary-stays s h e =
     let p = getD (s .points) (s .primary) noPoint in
     let q = placed (s .frame) p (s .edits) (s .standing) in
     let more = placed-more (s .frame) p (s .edits) e (s .standing) (placed-point (s .frame) p (s .edits) (s .standing)) in
     rw (getD-take (s .count) (s .points) (s .primary) noPoint (h .primed))
-    (ap isListed (sym more) ∙ is-listed (moved e q))
+    (ap stillListed (sym more) ∙ is-listed (moved e q))
 
 -- ---- turn and mirror
 plain : (s : Sheet) (h : Held s) (e : Edit) → Agree (afterEdit (ifOpen s (leaves 0 (addEdit s e))))
@@ -235,7 +235,7 @@ listed-held : (s : Sheet) → Held s → listedOf s ≡ listing (loadOf s) (rowO
 unfolding listedOf
 listed-held s h = listing-is s (s .count) (omega (arith, h .counted, h .filled))
 
-index-held : (s : Sheet) → Held s → listIndex s ≡ indexOf (loadOf s) (rowOf s)
+index-held : (s : Sheet) → Held s → listIndex s ≡ primaryIndex (loadOf s) (rowOf s)
 unfolding listIndex
 index-held s h =
     ap length (listing-is s (s .primary) (omega (arith, h .primed, h .counted, h .filled)))

@@ -20,14 +20,14 @@ use Rattle.placing.specs.Focus.{focusOf}
 use Rattle.placing.specs.Load.{Focus, noPoint}
 use Rattle.placing.specs.Sound.{Sound, SoundFocus, AllFit}
 use Rattle.placing.proofs.Sound.{focus-sound}
-use Rattle.journal.specs.Journal.{Change, cut, turn, mirror, Journal, empty, holds, frameBy, pointBy, staysListed, frameAfter, movedBy, carried, isListed, ifListed, listed, presentFrame, primaryOf, primaryAfter, ended, isBadCut, cutRefusal, changeRefusal, backRefusal, journalLoad, journalChange, journalBack}
+use Rattle.journal.specs.Journal.{Change, cut, turn, mirror, Journal, empty, holds, frameBy, pointBy, staysListed, frameAfter, movedBy, carried, stillListed, ifListed, listed, presentFrame, primaryOf, primaryAfter, ended, isBadCut, cutRefusal, changeRefusal, backRefusal, journalLoad, journalChange, journalBack}
 use Rattle.journal.specs.Calls.{Call, load, change, back, list, fit, journalStep, journalAfter}
 use Rattle.journal.specs.Claim.{after}
 use Rattle.journal.proofs.Carry.{carried-append, carried-snoc, carried-none}
 
 pub record Right (f : Focus) (standing : List Change) : Type 0 where
   pub sound : SoundFocus f
-  pub primary : isListed (primaryAfter f standing) ≡ true
+  pub primary : stillListed (primaryAfter f standing) ≡ true
   pub room : length standing ≤ 64
 
 abbrev pub AllRight : Journal → Type 0
@@ -37,10 +37,10 @@ AllRight (holds f standing) = Right f standing
 -- ---- one call
 -- a point that is listed after further edits was listed before them
 listed-before : (f : Size) (o : Option FocusPoint) (row more : List Change)
-    → isListed (carried f o (row ++ more)) ≡ true → isListed (carried f o row) ≡ true
+    → stillListed (carried f o (row ++ more)) ≡ true → stillListed (carried f o row) ≡ true
 listed-before f o row more e = by (carried f o row) (rw (carried-append f o row more) at e)
   where
-    by : (q : Option FocusPoint) → isListed (carried (frameAfter f row) q more) ≡ true → isListed q ≡ true
+    by : (q : Option FocusPoint) → stillListed (carried (frameAfter f row) q more) ≡ true → stillListed q ≡ true
     by none y = rw (carried-none (frameAfter f row) more) at y
     by (some p) y = refl
 
@@ -50,15 +50,15 @@ isPlain (cut l t w h) = false
 isPlain turn = true
 isPlain mirror = true
 
-plain-stays : (c : Change) (f : Size) (o : Option FocusPoint) → isPlain c ≡ true → isListed (movedBy c f o) ≡ isListed o
+plain-stays : (c : Change) (f : Size) (o : Option FocusPoint) → isPlain c ≡ true → stillListed (movedBy c f o) ≡ stillListed o
 plain-stays (cut l t w h) f o e = absurd (false≢true e)
 plain-stays turn f none e = refl
 plain-stays turn f (some p) e = refl
 plain-stays mirror f none e = refl
 plain-stays mirror f (some p) e = refl
 
-primary-plain : (f : Focus) (row : List Change) (c : Change) → isPlain c ≡ true → isListed (primaryAfter f row) ≡ true
-    → isListed (primaryAfter f (row ++ c ∷ [])) ≡ true
+primary-plain : (f : Focus) (row : List Change) (c : Change) → isPlain c ≡ true → stillListed (primaryAfter f row) ≡ true
+    → stillListed (primaryAfter f (row ++ c ∷ [])) ≡ true
 primary-plain f row c e h =
     rw (carried-snoc (f .frame) (some (primaryOf f)) row c)
     (plain-stays c (frameAfter (f .frame) row) (primaryAfter f row) e ∙ h)
@@ -83,9 +83,9 @@ change-right f row c r e =
       room = rw length-append (omega (arith, leb-false 64 (length row) (k .0)));
     }
   where
-    by : (c : Change) → cutRefusal f row c ≡ none → isListed (primaryAfter f (row ++ c ∷ [])) ≡ true
+    by : (c : Change) → cutRefusal f row c ≡ none → stillListed (primaryAfter f (row ++ c ∷ [])) ≡ true
     by (cut l t w h) y =
-        cut-told (isBadCut l t w h (presentFrame f row)) (isListed (primaryAfter f (row ++ cut l t w h ∷ []))) y
+        cut-told (isBadCut l t w h (presentFrame f row)) (stillListed (primaryAfter f (row ++ cut l t w h ∷ []))) y
     by turn y = primary-plain f row turn refl (r .primary)
     by mirror y = primary-plain f row mirror refl (r .primary)
 

@@ -16,7 +16,7 @@ use Rattle.placing.specs.Fit.{pointFits}
 use Rattle.placing.proofs.Fitting.{fits-on-frame}
 use Rattle.placing.specs.Load.{Focus}
 use Rattle.placing.specs.Sound.{SoundFocus, AllFit}
-use Rattle.journal.specs.Journal.{Change, cut, turn, mirror, Journal, empty, holds, frameAfter, movedBy, carried, isListed, ifListed, listed, presentFrame, listing, indexOf, primaryOf, primaryAfter, Answer, ok, ended, changeRefusal, backRefusal, journalChange, journalBack, written, journalList, journalFit}
+use Rattle.journal.specs.Journal.{Change, cut, turn, mirror, Journal, empty, holds, frameAfter, movedBy, carried, stillListed, ifListed, listed, presentFrame, listing, primaryIndex, primaryOf, primaryAfter, Answer, ok, ended, changeRefusal, backRefusal, journalChange, journalBack, written, journalList, journalFit}
 use Rattle.journal.specs.Calls.{Call, change, back, list, fit, journalStep, journalAfter}
 use Rattle.journal.specs.Claim.{after}
 use Rattle.journal.specs.Laws.{ListAlike, FourTurns, TwoMirrors, wholeCut, WholeCut, BackUndoes, SixtyFourStand, movedAll, EditMoves, StaysUnlisted}
@@ -71,7 +71,7 @@ module _ (f : Focus) (row other : List Change) (s : SoundFocus f)
   points-alike : listing f row ≡ listing f other
   points-alike = listed-alike (f .frame) row other (f .points) (s .fit) k
 
-  index-alike : indexOf f row ≡ indexOf f other
+  index-alike : primaryIndex f row ≡ primaryIndex f other
   index-alike =
       ap length (listed-alike (f .frame) row other (take (f .primary) (f .points)) (all-take (f .frame) (f .primary) (f .points) (s .fit)) k)
 
@@ -183,7 +183,7 @@ frame-sides : (f : Focus) (row : List Change) → Right f row → (0 < presentFr
 frame-sides f row r =
     by (primaryAfter f row) (carried-fits (f .frame) (some (primaryOf f)) row (fits-at (f .frame) (f .points) (f .primary) (r .sound .fit) (r .sound .primary-in))) (r .primary)
   where
-    by : (o : Option FocusPoint) → FitsIf (presentFrame f row) o → isListed o ≡ true
+    by : (o : Option FocusPoint) → FitsIf (presentFrame f row) o → stillListed o ≡ true
         → (0 < presentFrame f row .width) × (0 < presentFrame f row .height)
     by none y e = absurd (false≢true e)
     by (some q) y e = let o = fits-on-frame (presentFrame f row) q y in (o .wide, o .high)

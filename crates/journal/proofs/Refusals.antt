@@ -18,7 +18,7 @@ use Rattle.placing.specs.Fit.{hasZeroSide}
 use Rattle.laws.proofs.Tests.{neither, or-first, or-second}
 use Rattle.placing.specs.Focus.{focusOf}
 use Rattle.placing.specs.Load.{Focus}
-use Rattle.journal.specs.Journal.{Change, cut, turn, mirror, Journal, empty, holds, isListed, presentFrame, listing, primaryAfter, fitted, Answer, no, ok, ended, isBadCut, cutRefusal, changeRefusal, backRefusal, journalLoad, journalChange, journalBack, head, numbers, written, journalList, journalFit}
+use Rattle.journal.specs.Journal.{Change, cut, turn, mirror, Journal, empty, holds, stillListed, presentFrame, listing, primaryAfter, fitted, Answer, no, ok, ended, isBadCut, cutRefusal, changeRefusal, backRefusal, journalLoad, journalChange, journalBack, head, numbers, written, journalList, journalFit}
 use Rattle.journal.specs.Calls.{Call, load, change, back, list, fit, lent, journalStep, journalAfter}
 use Rattle.journal.specs.Claim.{after, newest, lastFrom, heldLoad, HoldsLastLoad, isLoad, EmptyBefore, BadCut, GoodCut, Refuses, notLoaded, isEmpty, full, badCut, dropsPrimary, nothingStands, zeroBox, short, shortFit, RefusedExactly}
 use Rattle.journal.proofs.Answers.{answers}
@@ -137,7 +137,7 @@ module _ (l t w h : ℕ) (f : Size) where
         le-ltb (f .height) (t + h) (g .down),
       )
 
-not-listed : (o : Option FocusPoint) → isListed o ≡ false → o ≡ none
+not-listed : (o : Option FocusPoint) → stillListed o ≡ false → o ≡ none
 not-listed none e = refl
 not-listed (some p) e = absurd (false≢true (sym e))
 
@@ -146,9 +146,9 @@ cut-refuses : (f : Focus) (row : List Change) (c : Change) (n : ℕ) → length 
 cut-refuses f row turn n r e = absurd (no-number n e)
 cut-refuses f row mirror n r e = absurd (no-number n e)
 cut-refuses f row (cut l t w h) n r e =
-    by (isBadCut l t w h (presentFrame f row)) (isListed (primaryAfter f (row ++ cut l t w h ∷ []))) refl refl e
+    by (isBadCut l t w h (presentFrame f row)) (stillListed (primaryAfter f (row ++ cut l t w h ∷ []))) refl refl e
   where
-    by : (a b : Bool) → isBadCut l t w h (presentFrame f row) ≡ a → isListed (primaryAfter f (row ++ cut l t w h ∷ [])) ≡ b
+    by : (a b : Bool) → isBadCut l t w h (presentFrame f row) ≡ a → stillListed (primaryAfter f (row ++ cut l t w h ∷ [])) ≡ b
         → cond a (some 9) (cond b none (some 10)) ≡ some n → Refuses (holds f row) (change (cut l t w h)) n
     by true b p q y = some-number (badCut r (bad-told l t w h (presentFrame f row) p)) y
     by false true p q y = absurd (no-number n y)

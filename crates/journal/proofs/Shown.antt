@@ -12,7 +12,7 @@ use borrow.Author.Tests.{le-ltb}
 use Rattle.reading.specs.declared.geometry.Size.{Size}
 use Rattle.placing.specs.declared.focus.FocusPoint.{FocusPoint}
 use Rattle.placing.specs.Load.{Focus, noPoint}
-use Rattle.journal.specs.Journal.{Change, holds, frameBy, pointBy, staysListed, carried, isListed, ifListed, listed, presentFrame, listing, primaryOf, primaryAfter, written, journalList}
+use Rattle.journal.specs.Journal.{Change, holds, frameBy, pointBy, staysListed, carried, stillListed, ifListed, listed, presentFrame, listing, primaryOf, primaryAfter, written, journalList}
 use Rattle.journal.specs.Calls.{list, journalStep}
 use Rattle.journal.specs.Claim.{placeAfter, fitsEveryCut, filtered, shownOf, shown, ListingIsShown, ListsExactly, PrimaryListed, PrimaryIsListed, ListedFits}
 use Rattle.journal.proofs.Carry.{carried-none, listed-append}
@@ -74,7 +74,7 @@ module _ (xs ys ps : List FocusPoint) (q : FocusPoint) (e : ps ≡ xs ++ (q ∷ 
   seam-at : getD ps (length xs) noPoint ≡ q
   seam-at = rw e (getD-append-seam xs q ys noPoint)
 
-primary-in : (f : Focus) (row : List Change) → f .primary < length (f .points) → isListed (primaryAfter f row) ≡ true → PrimaryListed f row
+primary-in : (f : Focus) (row : List Change) → f .primary < length (f .points) → stillListed (primaryAfter f row) ≡ true → PrimaryListed f row
 primary-in f row l h =
     let inside = listed-told (fitsEveryCut (f .frame) row (primaryOf f)) (rw (carried-is (f .frame) row (primaryOf f)) at h) in
     let q = placeAfter (f .frame) row (primaryOf f) in
@@ -90,7 +90,7 @@ primary-in f row l h =
       inside = inside;
     }
   where
-    listed-told : (b : Bool) → isListed (cond b (some (placeAfter (f .frame) row (primaryOf f))) none) ≡ true → b ≡ true
+    listed-told : (b : Bool) → stillListed (cond b (some (placeAfter (f .frame) row (primaryOf f))) none) ≡ true → b ≡ true
     listed-told true e = refl
     listed-told false e = e
 

@@ -18,7 +18,7 @@ use Rattle.placing.specs.Focus.{focusOf}
 use Rattle.placing.specs.Load.{Focus, noPoint}
 use Rattle.sheet.specs.declared.Sheet.{Sheet}
 use Rattle.sheet.specs.Sheet.{freshSheet}
-use Rattle.journal.specs.Journal.{Change, cut, Journal, empty, holds, frameBy, pointBy, staysListed, presentFrame, listing, indexOf, primaryOf, primaryAfter, fitted, Answer, no, ok, numbers, head}
+use Rattle.journal.specs.Journal.{Change, cut, Journal, empty, holds, frameBy, pointBy, staysListed, presentFrame, listing, primaryIndex, primaryOf, primaryAfter, fitted, Answer, no, ok, numbers, head}
 use Rattle.journal.specs.Calls.{Call, load, change, back, list, fit, lent, runJournal, journalAfter}
 use Rattle.journal.specs.SheetCalls.{sheetStep, runSheet, sheetAfter}
 
@@ -99,7 +99,7 @@ shownBefore f standing = shownOf f standing (take (f .primary) (f .points))
 abbrev pub ListingIsShown : Type 0
 ListingIsShown =
     (f : Focus) (standing : List Change) →
-    (listing f standing ≡ shown f standing) × (indexOf f standing ≡ length (shownBefore f standing))
+    (listing f standing ≡ shown f standing) × (primaryIndex f standing ≡ length (shownBefore f standing))
 
 -- the listing is exactly the last accepted load's points, in that order, that fit inside every standing cut, each where the
 -- standing edits carry it; count is their number
@@ -113,9 +113,9 @@ ListsExactly =
 
 -- the primary is among them: the answer's index is its place
 pub record PrimaryListed (f : Focus) (standing : List Change) : Type 0 where
-  pub in-listing : indexOf f standing < length (shown f standing)
-  pub before : take (indexOf f standing) (shown f standing) ≡ shownBefore f standing
-  pub there : getD (shown f standing) (indexOf f standing) noPoint ≡ placeAfter (f .frame) standing (primaryOf f)
+  pub in-listing : primaryIndex f standing < length (shown f standing)
+  pub before : take (primaryIndex f standing) (shown f standing) ≡ shownBefore f standing
+  pub there : getD (shown f standing) (primaryIndex f standing) noPoint ≡ placeAfter (f .frame) standing (primaryOf f)
   pub inside : fitsEveryCut (f .frame) standing (primaryOf f) ≡ true
 
 abbrev pub PrimaryIsListed : Type 0

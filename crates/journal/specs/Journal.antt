@@ -74,9 +74,9 @@ unfoldable pub carried : Size → Option FocusPoint → List Change → Option F
 carried f o [] = o
 carried f o (c ∷ cs) = carried (frameBy c f) (movedBy c f o) cs
 
-abbrev pub isListed : Option FocusPoint → Bool
-isListed none = false
-isListed (some p) = true
+abbrev pub stillListed : Option FocusPoint → Bool
+stillListed none = false
+stillListed (some p) = true
 
 abbrev pub ifListed : Option FocusPoint → List FocusPoint
 ifListed none = []
@@ -95,8 +95,8 @@ abbrev pub listing : Focus → List Change → List FocusPoint
 listing load standing = listed (load .frame) standing (load .points)
 
 -- "the primary's index its place among them": how many are listed before it
-abbrev pub indexOf : Focus → List Change → ℕ
-indexOf load standing = length (listed (load .frame) standing (take (load .primary) (load .points)))
+abbrev pub primaryIndex : Focus → List Change → ℕ
+primaryIndex load standing = length (listed (load .frame) standing (take (load .primary) (load .points)))
 
 abbrev pub primaryOf : Focus → FocusPoint
 primaryOf load = getD (load .points) (load .primary) noPoint
@@ -142,7 +142,7 @@ isBadCut left top width height f =
 abbrev pub cutRefusal : Focus → List Change → Change → Option ℕ
 cutRefusal load standing (cut left top width height) =
     cond (isBadCut left top width height (presentFrame load standing)) (some 9)
-    (cond (isListed (primaryAfter load (standing ++ cut left top width height ∷ []))) none (some 10))
+    (cond (stillListed (primaryAfter load (standing ++ cut left top width height ∷ []))) none (some 10))
 cutRefusal load standing turn = none
 cutRefusal load standing mirror = none
 
@@ -184,7 +184,7 @@ abbrev pub head : Focus → List Change → Size → List FocusPoint → List �
 head load standing f ps =
     f .width ∷
     f .height ∷
-    length ps ∷ indexOf load standing ∷ modeNumber (load .mode) ∷ originNumber (load .origin) ∷ []
+    length ps ∷ primaryIndex load standing ∷ modeNumber (load .mode) ∷ originNumber (load .origin) ∷ []
 
 -- 13: "buffer shorter than 6 × count". Else the points' numbers are written; "the rest of the buffer is kept"
 unfoldable pub written : Focus → List Change → Size → List FocusPoint → List ℕ → Answer

@@ -7,8 +7,8 @@ use Rattle.placing.specs.Fit.{axisFits, hasZeroSide, centerLiesOn, areaF
 use Rattle.placing.specs.Scale.{scaleOf, trimOf, scaledSide, scaledCenter, scaledArea, keptArea, scaledSize, scaledPoint}
 use Rattle.placing.specs.Points.{tableOf}
 use Rattle.placing.specs.Named.{samePlace, pictureIs, onCrop, uncropped, placedFrame, marked, fitsWindow, isNamed, isListed, listedFrom, hasNumber, indexOf, placedIn, windowOf, namedOutcome}
-use Rattle.placing.specs.Examples.{samePoint, isOnly, agrees, holds, Starred}
+use Rattle.placing.specs.Examples.{samePoint, isOnly, agrees, rowsAgree, Starred}
 
 pub starred : Starred
-unfolding holds agrees isOnly samePoint inFocusNumber same layoutAmong layoutOf recordOf tableOf axisFits hasZeroSide centerLiesOn areaFits noArea liesOn pointFits scaleOf trimOf scaledSide scaledCenter scaledArea keptArea scaledSize scaledPoint sameSize samePlace pictureIs onCrop uncropped placedFrame marked fitsWindow isNamed isListed listedFrom hasNumber indexOf placedIn windowOf namedOutcome
+unfolding rowsAgree agrees isOnly samePoint inFocusNumber same layoutAmong layoutOf recordOf tableOf axisFits hasZeroSide centerLiesOn areaFits noArea liesOn pointFits scaleOf trimOf scaledSide scaledCenter scaledArea keptArea scaledSize scaledPoint sameSize samePlace pictureIs onCrop uncropped placedFrame marked fitsWindow isNamed isListed listedFrom hasNumber indexOf placedIn windowOf namedOutcome
 starred = refl

@@ -10,7 +10,8 @@ use Rattle.reading.specs.declared.geometry.Size.{Size}
 use Rattle.reading.specs.declared.geometry.Point.{Point}
 use Rattle.placing.specs.Fit.{halfUp, axisFits, hasZeroSide, centerLiesOn, areaFits, noArea, areaIfAnyFits, liesOn, pointFits}
 use Rattle.laws.proofs.Tests.{both, and-of, neither, or-map}
-use Rattle.placing.specs.FittingLaws.{OnFrame, AxisMirrored, FitsOnFrame, FitsMirrored, swapped, FitsSwapped}
+use Rattle.placing.specs.FittingLaws.{OnFrame, AxisMirrored, FitsOnFrame, FitsMirrored, FitsSwapped}
+use Rattle.placing.specs.Fit.{swapped}
 
 pub some-width : (s : Size) → hasZeroSide s ≡ false → s .width ≡ 0 → ⊥
 unfolding hasZeroSide

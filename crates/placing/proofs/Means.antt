@@ -9,7 +9,8 @@ use Rattle.placing.specs.declared.load.FocusAnswer.the-variants.{Accepte
 use Rattle.placing.specs.declared.load.FocusPoints.{FocusPoints}
 use Rattle.placing.specs.declared.load.Refusal.{Refusal}
 use Rattle.placing.specs.declared.load.Refusal.the-variants.{Unreadable, NoRecord, ManualFocus, BadRecord, PositionUnplaced, NamesUnplaced}
-use Rattle.placing.specs.Load.{Focus, Laid, refusalNumber, loadNumber, focusMeans, laidOut}
+use Rattle.placing.specs.Load.{Focus}
+use Rattle.placing.specs.Laid.{Laid, refusalNumber, loadNumber, focusMeans, laidOut}
 use Rattle.placing.proofs.Numbers.{Numbered, number}
 
 some-number : (w : Refusal) → refusalNumber w ≡ 0 → ⊥

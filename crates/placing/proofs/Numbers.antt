@@ -1,8 +1,7 @@
 -- "Load can give 1 to 6": every refusal in the definition of one load has such a number, by the cases of its tests. Assumes nothing.
-use Prim.Native.Nat.{ℕ, zero, suc, _≤_, min}
+use Prim.Native.Nat.{ℕ, _≤_, min}
 use mathlib.Core.Bool.{Bool, true, false, cond, _&&_}
 use mathlib.Core.List.{List}
-use mathlib.Core.Path.{_≡_, refl}
 use lib.Dec.{leb, eqb}
 use lib.ListN.{length, take}
 use native.Mathlib.Omega.{arith}

@@ -6,7 +6,8 @@ use lib.ListN.{length, take, set, replicate, length-append, length-replicate}
 use lib.Seq.{take-at, set-at, append-snoc}
 use native.Mathlib.Omega.{arith}
 use Rattle.placing.specs.declared.focus.FocusPoint.{FocusPoint}
-use Rattle.placing.specs.Load.{noPoint, places}
+use Rattle.placing.specs.Load.{noPoint}
+use Rattle.placing.specs.Laid.{places}
 
 pub length-places : (ps : List FocusPoint) → length ps ≤ 39 → length (places ps) ≡ 39
 unfolding places

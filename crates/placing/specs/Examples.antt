@@ -96,10 +96,10 @@ agrees (names n crop picture x y) =
     isOnly (namedOutcome (Named 3 n (2 ^ (n - 1))) d600 crop picture Single) (pointAt n x y (square 164))
 agrees (reads n number) = eqb (numberOf (recordOf Big (zeroRecord n))) number
 
-unfoldable pub holds : List Example → Bool
-holds [] = true
-holds (e ∷ es) = agrees e && holds es
+unfoldable pub rowsAgree : List Example → Bool
+rowsAgree [] = true
+rowsAgree (e ∷ es) = agrees e && rowsAgree es
 
--- every starred example holds
+-- every starred example rowsAgree
 abbrev pub Starred : Type 0
-Starred = holds starredRows ≡ true
+Starred = rowsAgree starredRows ≡ true

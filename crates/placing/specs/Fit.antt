@@ -10,6 +10,10 @@ use Rattle.placing.specs.declared.focus.FocusPoint.{FocusPoint}
 abbrev pub by : ℕ → ℕ → Size
 by width height = record { width = width; height = height }
 
+-- a frame or an area with its sides exchanged
+abbrev pub swapped : Size → Size
+swapped s = by (s .height) (s .width)
+
 -- whether two sizes are equal
 unfoldable pub sameSize : Size → Size → Bool
 sameSize a b = eqb (a .width) (b .width) && eqb (a .height) (b .height)

@@ -6,7 +6,7 @@ use mathlib.Core.Path.{_≡_}
 use Rattle.reading.specs.declared.geometry.Size.{Size}
 use Rattle.reading.specs.declared.geometry.Point.{Point}
 use Rattle.placing.specs.declared.focus.FocusPoint.{FocusPoint}
-use Rattle.placing.specs.Fit.{axisFits, hasZeroSide, liesOn, pointFits}
+use Rattle.placing.specs.Fit.{axisFits, hasZeroSide, liesOn, pointFits, swapped}
 use Rattle.placing.specs.Scale.{scaleOf, trimOf, scaledPoint}
 
 -- "Half a pixel means: 2 × |result × old − v × new| ≤ old": neither product is over the other by more
@@ -46,10 +46,6 @@ FitsOnFrame = (f : Size) (p : FocusPoint) → pointFits f p ≡ true → OnFrame
 abbrev pub FitsMirrored : Type 0
 FitsMirrored =
     (f : Size) (c : Point) (a : Size) → liesOn f c a ≡ true → liesOn f (record { x = f .width - c .x; y = c .y }) a ≡ true
-
--- a frame or an area with its sides exchanged
-abbrev pub swapped : Size → Size
-swapped s = record { width = s .height; height = s .width }
 
 -- with the axes exchanged a point still fits
 abbrev pub FitsSwapped : Type 0

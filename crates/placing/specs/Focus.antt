@@ -9,7 +9,6 @@ use Rattle.reading.specs.declared.geometry.OptionalSize.{OptionalSize}
 use Rattle.reading.specs.declared.afinfo.FocusRecord.{FocusRecord}
 use Rattle.reading.specs.declared.nikon.Crop.{Crop}
 use Rattle.reading.specs.declared.nikon.CropArea.{CropArea}
-use Rattle.reading.specs.declared.note.NoteValues.{NoteValues}
 use Rattle.placing.specs.declared.focus.FocusPoint.{FocusPoint}
 use Rattle.placing.specs.Fit.{hasZeroSide}
 use Rattle.placing.specs.Load.{Focus, alone}

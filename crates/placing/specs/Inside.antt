@@ -1,5 +1,4 @@
 -- What only the code of this crate, and of the sheet above it, needs: no promise in 01's words rests on it.
-use Prim.Native.Nat.{ℕ}
 use mathlib.Core.Bool.{Bool, cond}
 use mathlib.Core.List.{List}
 use lib.ListN.{length}
@@ -8,15 +7,16 @@ use Rattle.placing.specs.declared.focus.FocusPoint.{FocusPoint}
 use Rattle.placing.specs.declared.points.FocusLayoutPoint.{FocusLayoutPoint}
 use Rattle.placing.specs.declared.named.Candidate.{Candidate}
 use Rattle.placing.specs.declared.named.Candidate.the-variants.{Out, In}
-use Rattle.placing.specs.declared.load.Row.{Row}
+use Rattle.placing.specs.declared.load.PointPlaces.{PointPlaces}
 use Rattle.placing.specs.declared.nikon.Located.{Located}
 use Rattle.placing.specs.declared.nikon.Located.the-variants.{Refused, Position, Names}
-use Rattle.placing.specs.Load.{Focus, refusalNumber, alone, places}
+use Rattle.placing.specs.Load.{Focus, alone}
+use Rattle.placing.specs.Laid.{refusalNumber, places}
 use Rattle.placing.specs.Named.{placedIn}
 
 -- points in 39 places, and how many there are
-abbrev pub rowOf : List FocusPoint → Row
-rowOf ps = record { points = places ps; count = length ps }
+abbrev pub pointPlaces : List FocusPoint → PointPlaces
+pointPlaces ps = record { points = places ps; count = length ps }
 
 -- what stands past the table's end
 abbrev pub noLayoutPoint : FocusLayoutPoint

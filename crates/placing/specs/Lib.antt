@@ -2,6 +2,7 @@ pub mod Fit
 pub mod Scale
 pub mod FittingLaws
 pub mod Load
+pub mod Laid
 pub mod Sound
 pub mod Recorded
 pub mod Points

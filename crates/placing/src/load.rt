@@ -6,7 +6,8 @@ use reading::geometry::Point;
 use reading::geometry::Size;
 ghost use mathlib.Core.Path.{_≡_};
 ghost use lib.ListN.{replicate};
-ghost use Rattle.placing.specs.Load.{noPoint, originNumber, refusalNumber, loadNumber, focusMeans, laidOut};
+ghost use Rattle.placing.specs.Load.{noPoint, originNumber};
+ghost use Rattle.placing.specs.Laid.{refusalNumber, loadNumber, focusMeans, laidOut};
 ghost use Rattle.reading.specs.Outcome.{refused};
 
 // Where points come from: the record's own position, or the table of the body's points.
@@ -44,7 +45,7 @@ pub struct FocusPoints {
 }
 
 // Points in the first `count` of 39 places.
-pub struct Row {
+pub struct PointPlaces {
     pub points: [FocusPoint; 39],
     pub count: usize,
 }

@@ -3,8 +3,8 @@ use crate::focus::FocusPoint;
 use crate::load::FocusAnswer;
 use crate::load::FocusOrigin;
 use crate::load::FocusPoints;
+use crate::load::PointPlaces;
 use crate::load::Refusal;
-use crate::load::Row;
 use crate::points::FocusLayoutPoint;
 use crate::points::PointTable;
 use reading::focus::FocusAreaMode;
@@ -17,8 +17,8 @@ use reading::nikon::CropHiSpeed;
 ghost use mathlib.Core.Path.{_≡_};
 ghost use Prim.Native.Nat.{_≤_, _<_};
 ghost use lib.ListN.{take};
-ghost use Rattle.placing.specs.Load.{focusMeans, laidOut};
-ghost use Rattle.placing.specs.Inside.{rowOf, candidateOf};
+ghost use Rattle.placing.specs.Laid.{focusMeans, laidOut};
+ghost use Rattle.placing.specs.Inside.{pointPlaces, candidateOf};
 ghost use Rattle.placing.specs.Named.{samePlace, pictureIs, onCrop, uncropped, frameMeans, placedFrame, marked, isNamed, fitsWindow, lessOrigin, isListed, listed, indexOf, placedIn, windowOf};
 ghost use Rattle.reading.specs.Outcome.{accepted};
 
@@ -121,13 +121,13 @@ pub fn placed_frame(crop: Crop, picture: OptionalSize) -> PlacedFrame
     ensures { λ r. ⌜ frameMeans r ≡ placedFrame crop picture ⌝ }
 {
     match crop {
-        Crop::Stated(recorded) => {
-            let cropped = recorded.cropped;
-            let original = recorded.original;
+        Crop::Stated(stated) => {
+            let cropped = stated.cropped;
+            let original = stated.original;
             if crate::focus::same_size(cropped, original) {
                 return PlacedFrame::Confirmed(uncropped_window(picture));
             }
-            on_crop(recorded, picture)
+            on_crop(stated, picture)
         }
         Crop::NoCrop => PlacedFrame::Confirmed(uncropped_window(picture)),
     }
@@ -196,8 +196,8 @@ fn placed_point(point: FocusLayoutPoint, window: Window, primary: u32, mask: u64
 }
 
 // The points of the table that the record names and that fit, in table order.
-fn listed_points(window: Window, primary: u32, mask: u64) -> Row
-    ensures { λ r. ⌜ r ≡ rowOf (listed window primary mask) ⌝ }
+fn listed_points(window: Window, primary: u32, mask: u64) -> PointPlaces
+    ensures { λ r. ⌜ r ≡ pointPlaces (listed window primary mask) ⌝ }
 {
     let table = crate::points::table();
     let mut points = crate::load::no_places();
@@ -214,7 +214,7 @@ fn listed_points(window: Window, primary: u32, mask: u64) -> Row
         }
         i += 1;
     }
-    Row { points, count }
+    PointPlaces { points, count }
 }
 
 // The index of the first of `count` points that has a number, or `count` where none has it.

@@ -17,7 +17,8 @@ use reading::nikon::CropArea;
 use reading::note::NoteAnswer;
 ghost use mathlib.Core.Path.{_≡_};
 ghost use Rattle.placing.specs.Named.{namedOutcome};
-ghost use Rattle.placing.specs.Load.{focusMeans, laidOut, alone};
+ghost use Rattle.placing.specs.Load.{alone};
+ghost use Rattle.placing.specs.Laid.{focusMeans, laidOut};
 ghost use Rattle.placing.specs.Focus.{pointOf, recordsPosition, placedOf, focusOf};
 ghost use Rattle.placing.specs.Inside.{locatedMeans};
 

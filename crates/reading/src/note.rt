@@ -1,5 +1,5 @@
 // A note: its lent bytes with their byte order, given together; and all that a load is told by the note of a block.
-// A method only takes the note apart and calls a function of a plain slice and an order; none asks anything of its caller.
+// `record` only takes the note apart and calls a function of a plain slice and an order; none asks anything of its caller.
 use crate::afinfo::AfInfo2;
 use crate::afinfo::FocusRecord;
 use crate::geometry::OptionalSize;

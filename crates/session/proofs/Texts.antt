@@ -22,14 +22,15 @@ use Rattle.reading.specs.declared.geometry.OptionalSize.{OptionalSize}
 use Rattle.reading.specs.declared.nikon.TagList.{TagList}
 use Rattle.reading.specs.declared.nikon.ContentsAnswer.the-variants as contents-answers
 use Rattle.placing.specs.Fit.{hasZeroSide}
-use Rattle.placing.specs.Load.{originNumber, loadNumber}
+use Rattle.placing.specs.Load.{originNumber}
+use Rattle.placing.specs.Laid.{loadNumber}
 use Rattle.placing.specs.Focus.{focusOf}
 use Rattle.calls.specs.declared.Call.{Call as Parsed}
 use Rattle.calls.specs.Format.{callOf, callMeans}
 use Rattle.sheet.specs.declared.Sheet.{Sheet}
 use Rattle.sheet.specs.declared.Edited.{Edited}
 use Rattle.sheet.specs.declared.Loaded.{Loaded}
-use Rattle.sheet.specs.declared.listing.Listing.{Listing}
+use Rattle.sheet.specs.declared.listing.ListHead.{ListHead}
 use Rattle.sheet.specs.declared.listing.ListAnswer.{ListAnswer}
 use Rattle.sheet.specs.declared.listing.ListAnswer.the-variants.{Listed}
 use Rattle.sheet.specs.Sheet.{editedMeans, loadedMeans, usable, loadSheet, presentFrame}
@@ -42,7 +43,7 @@ use Rattle.journal.specs.Journal.{Answer}
 use Rattle.journal.specs.Calls.{Call, load, list, fit}
 use Rattle.journal.specs.SheetCalls.{numbered, afterEdit, sheetStep}
 use Rattle.session.specs.declared.Stepped.{Stepped}
-use Rattle.session.specs.Lines.{Spelled, contents, asks, spelledBy, spelledIn, lentBuffer}
+use Rattle.session.specs.Lines.{contents, asks, spelledBy, spelledIn, lentBuffer}
 use Rattle.session.specs.Texts.{givenText, outcomeText, answerText, tagListText}
 use Rattle.session.specs.Answering.{mostText, Answers}
 use Rattle.session.specs.Inside.{fewPoints}
@@ -61,11 +62,11 @@ module _ {o o₁ : List ℕ} {a a₁ : ℕ} where
       → Puts o a (outcomeText (listMeans x) ws) mostText o₁ a₁
   list-no x y ws n e f p = rw (e, f) (at-most p (omega arith))
 
-  pub list-yes : (x : ListAnswer) (ws : List ℕ) (l : Listing) → x ≡ Listed l → Puts o a (givenText (headNumbers l) ws) mostText o₁ a₁
+  pub list-yes : (x : ListAnswer) (ws : List ℕ) (l : ListHead) → x ≡ Listed l → Puts o a (givenText (headNumbers l) ws) mostText o₁ a₁
       → Puts o a (outcomeText (listMeans x) ws) mostText o₁ a₁
   list-yes x ws l e p = rw e p
 
-  pub listing-text : {o₂ : List ℕ} {a₂ : ℕ} (l : Listing) (ws hs : List ℕ) → hs ≡ headNumbers l → l .count ≤ 39 → Puts o a (headText hs) 99 o₁ a₁
+  pub listing-text : {o₂ : List ℕ} {a₂ : ℕ} (l : ListHead) (ws hs : List ℕ) → hs ≡ headNumbers l → l .count ≤ 39 → Puts o a (headText hs) 99 o₁ a₁
       → Puts o₁ a₁ (pointsText ws (min (l .count) 39)) 2574 o₂ a₂ → Puts o a (givenText (headNumbers l) ws) mostText o₂ a₂
   unfolding givenText headNumbers
   listing-text l ws hs e h p q = at-most (rw e at p ▹ rw (min-eq-left h) at q) (omega arith)
@@ -86,7 +87,7 @@ module _ {o o₁ : List ℕ} {a a₁ : ℕ} where
   edit-text e n f p = at-most (rw f at p) (omega arith)
 
 -- ---- the numbers of a head
-pub head-is : (l : Listing) (m n : ℕ) → m ≡ modeNumber (l .mode) → n ≡ originNumber (l .origin)
+pub head-is : (l : ListHead) (m n : ℕ) → m ≡ modeNumber (l .mode) → n ≡ originNumber (l .origin)
     → (l .frame .width ∷ l .frame .height ∷ l .count ∷ l .index ∷ m ∷ n ∷ []) ≡ headNumbers l
 unfolding headNumbers
 head-is l m n e f = rw (e, f)
@@ -109,7 +110,7 @@ few-fit s box m x e =
     rw e
     (by-cond fewPoints (usable s) (λ h. by-cond fewPoints (hasZeroSide box) (λ z. tt) (λ z. few-listed s box m h)) (λ h. tt))
 
-pub few-of-listed : (x : ListAnswer) (l : Listing) → x ≡ Listed l → fewPoints (listMeans x) → (l .count ≤ 39) × (l .index ≤ 39)
+pub few-of-listed : (x : ListAnswer) (l : ListHead) → x ≡ Listed l → fewPoints (listMeans x) → (l .count ≤ 39) × (l .index ≤ 39)
 unfolding headNumbers
 few-of-listed x l e h = rw e at h
 

@@ -7,7 +7,7 @@ use reading::nikon::ContentsAnswer;
 use sheet::Edited;
 use sheet::Sheet;
 use sheet::listing::ListAnswer;
-use sheet::listing::Listing;
+use sheet::listing::ListHead;
 ghost use mathlib.Core.Path.{_≡_};
 ghost use mathlib.Core.List.{[]};
 ghost use Prim.Native.Nat.{_≤_};
@@ -42,7 +42,7 @@ fn put_outcome(out: &mut [u8], at: usize, n: u32) -> usize
 }
 
 // The numbers of a listing's head line.
-fn head_numbers(l: Listing) -> [u32; 6]
+fn head_numbers(l: ListHead) -> [u32; 6]
     requires { ⌜ (l .count ≤ 39) × (l .index ≤ 39) ⌝ }
     ensures { λ r. ⌜ r ≡ headNumbers l ⌝ }
 {
@@ -60,7 +60,7 @@ fn head_numbers(l: Listing) -> [u32; 6]
 }
 
 // The lines of a listing: its head, and a line a point.
-fn put_listing(out: &mut [u8], at: usize, l: Listing, words: &[u32]) -> usize
+fn put_listing(out: &mut [u8], at: usize, l: ListHead, words: &[u32]) -> usize
     requires { ⌜ (l .count ≤ 39) × (l .index ≤ 39) ⌝ }
     ensures { λ r. ⌜ Puts (now (out .entry)) at (givenText (headNumbers l) (now (words .entry))) mostText (now (out .exit)) r ⌝ }
 {

@@ -7,11 +7,11 @@ use lib.ListN.{length, set, length-append}
 use native.Mathlib.Omega.{arith}
 use native.Mathlib.Numerals.{add-one}
 use Rattle.placing.specs.declared.focus.FocusPoint.{FocusPoint}
-use Rattle.placing.specs.Load.{places}
-use Rattle.placing.specs.Inside.{rowOf}
+use Rattle.placing.specs.Laid.{places}
+use Rattle.placing.specs.Inside.{pointPlaces}
 use Rattle.sheet.specs.declared.edits.Carried.{Carried}
 use Rattle.sheet.specs.declared.Sheet.{Sheet}
-use Rattle.placing.specs.declared.load.Row.{Row}
+use Rattle.placing.specs.declared.load.PointPlaces.{PointPlaces}
 use Rattle.sheet.specs.Sheet.{placedAt}
 use Rattle.sheet.specs.Lists.{ifCarried, listing}
 use Rattle.placing.proofs.Places.{set-places}
@@ -53,5 +53,5 @@ module _ (s : Sheet) (i n : ℕ) (ps : List FocusPoint) (hi : i < 39) (en : n �
       rw g (en, ep)
 
 pub row-done : (s : Sheet) (i m n : ℕ) (ps : List FocusPoint) → i ≤ m → m ≤ i → n ≡ length (listing s i) → ps ≡ places (listing s i)
-    → _≡_ {A = Row} (record { points = ps; count = n }) (rowOf (listing s m))
+    → _≡_ {A = PointPlaces} (record { points = ps; count = n }) (pointPlaces (listing s m))
 row-done s i m n ps a b en ep = let e : i ≡ m = omega arith in rw (en, ep, e)

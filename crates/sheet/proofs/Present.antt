@@ -8,7 +8,7 @@ use native.Mathlib.Omega.{arith}
 use borrow.Author.Tests.{lt-ltb, le-ltb}
 use Rattle.reading.specs.declared.geometry.Size.{Size}
 use Rattle.sheet.specs.declared.Sheet.{Sheet}
-use Rattle.sheet.specs.declared.listing.Listing.{Listing}
+use Rattle.sheet.specs.declared.listing.ListHead.{ListHead}
 use Rattle.sheet.specs.declared.list.Present.{Present}
 use Rattle.sheet.specs.Sheet.{presentFrame}
 use Rattle.sheet.specs.Lists.{listed, listCount, listIndex, isShort, headIn}
@@ -47,6 +47,6 @@ module _ (s : Sheet) (v : Present) (e : v ≡ presentOf s) where
   long m h = ap (λ (k : ℕ). ltb m (6 * k)) (sym count-of) ∙ le-ltb m (6 * v .count) h
 
   pub head-of : (f : Size)
-      → _≡_ {A = Listing} (record { frame = f; count = v .count; index = v .index; mode = s .«area_mode»; origin = s .origin }) (headIn f s)
+      → _≡_ {A = ListHead} (record { frame = f; count = v .count; index = v .index; mode = s .«area_mode»; origin = s .origin }) (headIn f s)
   unfolding headIn
   head-of f = ap₂ (λ (c i : ℕ). record { frame = f; count = c; index = i; mode = s .«area_mode»; origin = s .origin }) count-of index-of

@@ -1,5 +1,5 @@
 -- What only the code of this crate needs: no promise to a caller rests on it.
-use Rattle.placing.specs.Load.{places}
+use Rattle.placing.specs.Laid.{places}
 use Rattle.sheet.specs.declared.Sheet.{Sheet}
 use Rattle.sheet.specs.declared.list.Present.{Present}
 use Rattle.sheet.specs.Sheet.{presentFrame}

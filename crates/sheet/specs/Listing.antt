@@ -8,12 +8,12 @@ use Rattle.reading.specs.Outcome.{Outcome, refused, accepted}
 use Rattle.reading.specs.Focus.{inFocusNumber, modeNumber}
 use Rattle.placing.specs.declared.focus.FocusPoint.{FocusPoint}
 use Rattle.placing.specs.Load.{originNumber}
-use Rattle.sheet.specs.declared.listing.Listing.{Listing}
+use Rattle.sheet.specs.declared.listing.ListHead.{ListHead}
 use Rattle.sheet.specs.declared.listing.ListAnswer.{ListAnswer}
 use Rattle.sheet.specs.declared.listing.ListAnswer.the-variants.{Empty, ZeroBox, Short, Listed}
 
 -- "The answer holds frame, count, primary's index from 0, mode .., origin", in 01's numbers
-unfoldable pub headNumbers : Listing → List ℕ
+unfoldable pub headNumbers : ListHead → List ℕ
 headNumbers l =
     l .frame .width ∷
     l .frame .height ∷ l .count ∷ l .index ∷ modeNumber (l .mode) ∷ originNumber (l .origin) ∷ []

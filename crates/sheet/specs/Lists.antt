@@ -12,7 +12,7 @@ use Rattle.placing.specs.Scale.{scaledPoint}
 use Rattle.sheet.specs.declared.edits.Carried.{Carried}
 use Rattle.sheet.specs.Listing.{headNumbers, flat, over}
 use Rattle.sheet.specs.declared.Sheet.{Sheet}
-use Rattle.sheet.specs.declared.listing.Listing.{Listing}
+use Rattle.sheet.specs.declared.listing.ListHead.{ListHead}
 use Rattle.sheet.specs.Sheet.{usable, placedAt, presentFrame}
 
 -- a point, if no standing cut dropped it
@@ -41,7 +41,7 @@ unfoldable pub isShort : Sheet → ℕ → Bool
 isShort s m = ltb m (6 * listCount s)
 
 -- what a listing in the frame f answers
-unfoldable pub headIn : Size → Sheet → Listing
+unfoldable pub headIn : Size → Sheet → ListHead
 headIn f s =
     record { frame = f; count = listCount s; index = listIndex s; mode = s .«area_mode»; origin = s .origin }
 

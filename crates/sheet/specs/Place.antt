@@ -8,7 +8,7 @@ use Rattle.reading.specs.declared.geometry.Size.{Size}
 use Rattle.reading.specs.declared.geometry.Point.{Point}
 use Rattle.placing.specs.declared.focus.FocusPoint.{FocusPoint}
 use Rattle.placing.specs.Fit.{pointFits, by}
-use Rattle.placing.specs.FittingLaws.{swapped}
+use Rattle.placing.specs.Fit.{swapped}
 use Rattle.sheet.specs.declared.edits.Edit.{Edit}
 use Rattle.sheet.specs.declared.edits.Edit.the-variants.{Turn, Mirror, Cut}
 use Rattle.sheet.specs.declared.edits.Carried.{Carried}

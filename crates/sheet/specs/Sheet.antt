@@ -9,7 +9,8 @@ use Rattle.reading.specs.Outcome.{Outcome, refused, accepted}
 use Rattle.reading.specs.declared.geometry.Size.{Size}
 use Rattle.reading.specs.declared.focus.FocusAreaMode.the-variants.{NoMode}
 use Rattle.placing.specs.declared.load.FocusOrigin.the-variants.{Recorded}
-use Rattle.placing.specs.Load.{Focus, noPoint, places, loadNumber}
+use Rattle.placing.specs.Load.{Focus, noPoint}
+use Rattle.placing.specs.Laid.{places, loadNumber}
 use Rattle.sheet.specs.declared.edits.Edit.{Edit}
 use Rattle.sheet.specs.declared.edits.Edit.the-variants.{Turn, Mirror, Cut}
 use Rattle.sheet.specs.declared.edits.Carried.{Carried}

@@ -1,15 +1,15 @@
 // The listing of the points where the standing edits leave them, and in another frame.
 use crate::Sheet;
 use crate::listing::ListAnswer;
-use crate::listing::Listing;
+use crate::listing::ListHead;
 use placing::focus::FocusPoint;
-use placing::load::Row;
+use placing::load::PointPlaces;
 use reading::geometry::Size;
 ghost use mathlib.Core.Path.{_≡_};
 ghost use mathlib.Core.List.{[], _++_};
 ghost use Prim.Native.Nat.{_+_, _<_, _≤_};
 ghost use lib.ListN.{length, take, drop};
-ghost use Rattle.placing.specs.Inside.{rowOf};
+ghost use Rattle.placing.specs.Inside.{pointPlaces};
 ghost use Rattle.sheet.specs.Lists.{listing, scaledAll, listOutcome, listBuffer, fitOutcome, fitBuffer};
 ghost use Rattle.sheet.specs.Listing.{listMeans};
 ghost use Rattle.sheet.specs.Inside.{presentOf};
@@ -38,18 +38,18 @@ fn scaled_points(points: [FocusPoint; 39], n: usize, old: Size, new: Size) -> [F
 }
 
 // A row of no points.
-fn empty_row() -> Row
-    ensures { λ r. ⌜ r ≡ rowOf [] ⌝ }
+fn empty_row() -> PointPlaces
+    ensures { λ r. ⌜ r ≡ pointPlaces [] ⌝ }
 {
     let points = placing::load::no_places();
-    Row { points, count: 0 }
+    PointPlaces { points, count: 0 }
 }
 
 impl Sheet {
     // The listed points among the first `from`, and those up to `to`.
-    fn listed_to(self, row: Row, from: usize, to: usize) -> Row
-        requires { ⌜ (from ≤ to) × (to ≤ 39) × (self .standing ≤ 64) × (row ≡ rowOf (listing self from)) ⌝ }
-        ensures { λ r. ⌜ r ≡ rowOf (listing self to) ⌝ }
+    fn listed_to(self, row: PointPlaces, from: usize, to: usize) -> PointPlaces
+        requires { ⌜ (from ≤ to) × (to ≤ 39) × (self .standing ≤ 64) × (row ≡ pointPlaces (listing self from)) ⌝ }
+        ensures { λ r. ⌜ r ≡ pointPlaces (listing self to) ⌝ }
     {
         let mut points = row.points;
         let mut count = row.count;
@@ -67,7 +67,7 @@ impl Sheet {
             }
             i += 1;
         }
-        Row { points, count }
+        PointPlaces { points, count }
     }
 
     // The points where the standing edits carry them, the primary's index and the present frame.
@@ -106,7 +106,7 @@ impl Sheet {
         let frame = present.frame;
         let mode = self.area_mode;
         let origin = self.origin;
-        ListAnswer::Listed(Listing {
+        ListAnswer::Listed(ListHead {
             frame,
             count,
             index: present.index,
@@ -135,7 +135,7 @@ impl Sheet {
         }
         let mode = self.area_mode;
         let origin = self.origin;
-        ListAnswer::Listed(Listing {
+        ListAnswer::Listed(ListHead {
             frame: size,
             count,
             index: present.index,

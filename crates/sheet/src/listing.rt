@@ -11,7 +11,7 @@ ghost use Rattle.reading.specs.Outcome.{numberOf};
 ghost use Rattle.sheet.specs.Listing.{listMeans, six, hasRoom, withPoints};
 
 // What a listing says beside its points: their frame and number, and the primary's index among them.
-pub struct Listing {
+pub struct ListHead {
     pub frame: Size,
     pub count: usize,
     pub index: usize,
@@ -24,7 +24,7 @@ pub enum ListAnswer {
     Empty,
     ZeroBox,
     Short,
-    Listed(Listing),
+    Listed(ListHead),
 }
 
 // 01's number for how list and fit end, 0 for listed.

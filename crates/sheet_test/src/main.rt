@@ -12,7 +12,7 @@ use sheet::Edited;
 use sheet::Loaded;
 use sheet::Sheet;
 use sheet::listing::ListAnswer;
-use sheet::listing::Listing;
+use sheet::listing::ListHead;
 ghost use mathlib.Core.Path.{_≡_};
 ghost use lib.ListN.{length};
 
@@ -50,7 +50,7 @@ fn after_load(r: Loaded) -> Sheet {
     s
 }
 
-fn print_head(l: Listing) {
+fn print_head(l: ListHead) {
     let frame = l.frame;
     let mode = l.mode;
     let origin = l.origin;

@@ -37,13 +37,17 @@ take-kept c l =
     rw (take-append-le lineRoom l (c ∷ []) h, take-append-le lineRoom (take lineRoom l) (c ∷ []) (omega arith), take-all lineRoom (take lineRoom l) (omega arith)))
     (by-order (length l) lineRoom)
 
+-- what is held of a line spells what the line spells
+cut : (line : List ℕ) → spelled (take lineRoom line) ≡ spelled line
+cut line = line-cut line
+
 ended : (s : Sheet) (l : List ℕ) → flatten (sheetTexts s (linesFrom l [])) ≡ lastText s (take lineRoom l)
 unfolding flatten sheetTexts linesFrom lastText
 ended s [] = rw (take-nil {A = ℕ} lineRoom)
 ended s (c ∷ l) =
     let e : eqb (length (take lineRoom (c ∷ l))) 0 ≡ false =
     ne-eqb (length (take lineRoom (c ∷ l))) 0 (λ z. omega (arith, length-take lineRoom (c ∷ l))) in
-    rw (ne-eqb (length (c ∷ l)) 0 (λ z. omega arith), e, line-cut (c ∷ l)) (append-nil (sheetText s (spelled (c ∷ l))))
+    rw (ne-eqb (length (c ∷ l)) 0 (λ z. omega arith), e, cut (c ∷ l)) (append-nil (sheetText s (spelled (c ∷ l))))
 
 -- what comes after the characters `l` of a line
 whole : (t l : List ℕ) (s : Sheet)
@@ -57,7 +61,7 @@ whole (c ∷ t) l s =
     let s₁ : Sheet = sheetNext s (spelled l) in
     let z : flatten (sheetTexts s₁ (linesFrom [] t)) ≡ pieceText s₁ [] t ++ lastText (sheetAfterPiece s₁ [] t) (heldAfterPiece [] t) =
     rw (take-nil {A = ℕ} lineRoom) at (whole t [] s₁) in
-    rw (e, line-cut l, z)
+    rw (e, cut l, z)
     (sym (append-assoc (sheetText s (spelled l)) (pieceText s₁ [] t) (lastText (sheetAfterPiece s₁ [] t) (heldAfterPiece [] t)))))
     (λ (e : eqb c 10 ≡ false). rw (e, ← take-kept c l) (whole t (l ++ (c ∷ [])) s))
     (by-bool (eqb c 10))

@@ -90,17 +90,17 @@ module _ {l₀ h t l : List ℕ} {n : ℕ} (p : Holding l₀ h t l n) where
   still-held e = (same-length ∙ e, omega (arith, held-long, length-take n l, same-length, e))
 
   module _ (u : List ℕ) where
-    pub then-held : heldAfterPiece (take n l) u ≡ heldAfterPiece h (t ++ u)
+    then-held : heldAfterPiece (take n l) u ≡ heldAfterPiece h (t ++ u)
     then-held = rw (p .held-after, held-app h t u)
 
     then-line : lineAfterPiece l (take n l) u ≡ lineAfterPiece l₀ h (t ++ u)
     then-line = rw (p .held-after, p .line-after, line-app l₀ h t u)
 
     module _ {s₁ : Sheet} (s : Sheet) (e : s₁ ≡ sheetAfterPiece s h t) where
-      pub then-sheet : sheetAfterPiece s₁ (take n l) u ≡ sheetAfterPiece s h (t ++ u)
+      then-sheet : sheetAfterPiece s₁ (take n l) u ≡ sheetAfterPiece s h (t ++ u)
       then-sheet = rw (p .held-after, e, sheet-app s h t u)
 
-      pub then-text : pieceText s h t ++ pieceText s₁ (take n l) u ≡ pieceText s h (t ++ u)
+      then-text : pieceText s h t ++ pieceText s₁ (take n l) u ≡ pieceText s h (t ++ u)
       then-text = rw (p .held-after, e, text-app s h t u)
 
   holding-join : {u l₁ : List ℕ} {n₁ : ℕ} → Holding l (take n l) u l₁ n₁ → Holding l₀ h (t ++ u) l₁ n₁

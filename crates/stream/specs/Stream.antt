@@ -49,7 +49,7 @@ pieceText s h (c ∷ piece) =
 unfoldable pub lastText : Sheet → List ℕ → List ℕ
 lastText s h = cond (eqb (length h) 0) [] (sheetText s (spelled h))
 
--- ---- how much of a piece is used, where the buffer has `room` places
+-- ---- how much of a piece is used, where the buffer has `room` places: said line by line, as it fixes what `feed` answers of it
 -- n where a place leaves room for the longest answer, else 0
 abbrev pub ifRoom : ℕ → ℕ → ℕ → ℕ
 ifRoom room at n = cond (leb (at + mostText) room) n 0

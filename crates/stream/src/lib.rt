@@ -32,7 +32,7 @@ struct Run {
 }
 
 // Tells whether any answer fits into a buffer from a place on.
-fn has_room(len: usize, at: usize) -> bool
+fn room_for_answer(len: usize, at: usize) -> bool
     ensures { λ r. ⌜ r ≡ leb (at + mostText) len ⌝ }
 {
     if len < at {
@@ -132,7 +132,7 @@ fn feed_lines(
     };
     let mut i = 0;
     while i < input.len() {
-        if !has_room(out.len(), fed.at) {
+        if !room_for_answer(out.len(), fed.at) {
             fed.used = i;
             return fed;
         }

@@ -18,8 +18,8 @@ abbrev μ-loop : tie.MeasureT-loop
 loop-holds : tie.Need-loop-holds Inv-loop μ-loop
 loop-holds c = laws.lines-none _ _ _ _ _ _ (omega arith) (omega (arith, (c .before .before .before .pre .0), (c .before .before .before .pre .1))) (omega arith) (omega arith)
 
-has-room-requires : tie.Need-has-room-requires Inv-loop μ-loop
-has-room-requires c κs = tt
+room-for-answer-requires : tie.Need-room-for-answer-requires Inv-loop μ-loop
+room-for-answer-requires c κs = tt
 
 same-length : tie.Need-same-length Inv-loop μ-loop
 same-length c = laws.same-length (c .before .before .before .loop .inv .taken .holding)
@@ -28,7 +28,7 @@ same-length-2 : tie.Need-same-length-2 Inv-loop μ-loop
 same-length-2 c = text.put-same (c .before .before .before .loop .inv .put)
 
 returns : tie.Need-returns Inv-loop μ-loop
-returns c = laws.feeds-some _ _ (c .before .before .before .loop .inv) _ (c .before .has-room .ensures) (c .if1 .taken)
+returns c = laws.feeds-some _ _ (c .before .before .before .loop .inv) _ (c .before .room-for-answer .ensures) (c .if1 .taken)
 
 sub-feed-line : tie.Need-sub-feed-line Inv-loop μ-loop
 sub-feed-line c = omega arith
@@ -49,7 +49,7 @@ loop-less : tie.Need-loop-less Inv-loop μ-loop
 loop-less c = omega (arith, laws.lines-further _ _ (c .before .before .before .before .before .before .before .before .before .before .before .before .before .loop .inv) (c .before .before .before .before .before .before .before .before .before .before .before .before .loop-test .taken) (c .before .before .before .before .before .feed-line .ensures) .0, laws.lines-further _ _ (c .before .before .before .before .before .before .before .before .before .before .before .before .before .loop .inv) (c .before .before .before .before .before .before .before .before .before .before .before .before .loop-test .taken) (c .before .before .before .before .before .feed-line .ensures) .1)
 
 loop-again : tie.Need-loop-again Inv-loop μ-loop
-loop-again c = laws.lines-more _ _ (c .before .before .before .before .before .before .before .before .before .before .before .before .before .loop .inv) _ (c .before .before .before .before .before .before .before .before .before .before .before .has-room .ensures) (c .before .before .before .before .before .before .before .before .before .before .if1 .left) (c .before .before .before .before .before .feed-line .ensures)
+loop-again c = laws.lines-more _ _ (c .before .before .before .before .before .before .before .before .before .before .before .before .before .loop .inv) _ (c .before .before .before .before .before .before .before .before .before .before .before .room-for-answer .ensures) (c .before .before .before .before .before .before .before .before .before .before .if1 .left) (c .before .before .before .before .before .feed-line .ensures)
 
 same-length-3 : tie.Need-same-length-3 Inv-loop μ-loop
 same-length-3 c = laws.same-length (c .before .loop .inv .taken .holding)
@@ -67,7 +67,7 @@ feed-lines-spec =
     Inv-loop
     μ-loop
     loop-holds
-    has-room-requires
+    room-for-answer-requires
     same-length
     same-length-2
     returns

@@ -4,7 +4,7 @@ use Prim.Native.Nat.{ℕ}
 use Rattle.placing.specs.declared.load.FocusAnswer.{FocusAnswer}
 use Rattle.placing.specs.declared.load.FocusAnswer.the-variants.{Refused}
 use Rattle.placing.specs.declared.load.Refusal.{Refusal}
-use Rattle.placing.specs.Load.{refusalNumber, loadNumber}
+use Rattle.placing.specs.Laid.{refusalNumber, loadNumber}
 use borrow.Author.Needs.{needs}
 use Rattle.placing.proofs.load.load_number.Statement.{statement}
 use Rattle.placing.proofs.load.load_number.Tie as tie

@@ -1,5 +1,5 @@
--- `focus::no_points`: the definition, field by field. Assumes nothing.
-use Rattle.placing.specs.Load.{loadNumber, laidOut}
+-- `load::no_points`: the definition, field by field. Assumes nothing.
+use Rattle.placing.specs.Laid.{loadNumber, laidOut}
 use borrow.Author.Needs.{needs}
 use Rattle.placing.proofs.load.no_points.Statement.{statement}
 use Rattle.placing.proofs.load.no_points.Tie as tie

@@ -1,4 +1,4 @@
--- `focus::origin_number`: by cases. Assumes nothing.
+-- `load::origin_number`: by cases. Assumes nothing.
 use Rattle.placing.specs.Load.{originNumber}
 use borrow.Author.Needs.{needs}
 use Rattle.placing.proofs.load.origin_number.Statement.{statement}

@@ -1,5 +1,5 @@
--- `focus::refusal_number`: by cases. Assumes nothing.
-use Rattle.placing.specs.Load.{refusalNumber}
+-- `load::refusal_number`: by cases. Assumes nothing.
+use Rattle.placing.specs.Laid.{refusalNumber}
 use borrow.Author.Needs.{needs}
 use Rattle.placing.proofs.load.refusal_number.Statement.{statement}
 use Rattle.placing.proofs.load.refusal_number.Tie as tie

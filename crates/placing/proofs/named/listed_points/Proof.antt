@@ -15,11 +15,12 @@ use Rattle.placing.specs.declared.points.FocusLayoutPoint.{FocusLayoutPo
 use Rattle.placing.specs.declared.named.Window.{Window}
 use Rattle.placing.specs.declared.named.Candidate.{Candidate}
 use Rattle.placing.specs.declared.named.Candidate.the-variants.{Out, In}
-use Rattle.placing.specs.declared.load.Row.{Row}
-use Rattle.placing.specs.Load.{noPoint, places}
+use Rattle.placing.specs.declared.load.PointPlaces.{PointPlaces}
+use Rattle.placing.specs.Load.{noPoint}
+use Rattle.placing.specs.Laid.{places}
 use Rattle.placing.specs.Points.{points as table}
 use Rattle.placing.specs.Named.{lessOrigin, isListed, listedFrom, listed}
-use Rattle.placing.specs.Inside.{rowOf, candidateOf, noLayoutPoint}
+use Rattle.placing.specs.Inside.{pointPlaces, candidateOf, noLayoutPoint}
 use Rattle.placing.proofs.Table.{number-at}
 use borrow.Author.Needs.{needs}
 use Rattle.placing.proofs.named.listed_points.Statement.{statement}
@@ -66,7 +67,7 @@ unfolding listedFrom
 no-rows w primary mask = refl
 
 end : (w : Window) (primary mask : ℕ) (ps : List FocusPoint) (n i : ℕ) → i ≡ 39 → Going w primary mask ps n i →
-    _≡_ {A = Row} (record { points = ps; count = n }) (rowOf (listed w primary mask))
+    _≡_ {A = PointPlaces} (record { points = ps; count = n }) (pointPlaces (listed w primary mask))
 unfolding places
 end w primary mask ps n i e k =
     let f = finished 39 noPoint (listed w primary mask) ps n (rw (e, no-rows w primary mask) at k) in

@@ -12,9 +12,10 @@ use Rattle.placing.specs.declared.load.Refusal.the-variants.{NamesUnplac
 use Rattle.placing.specs.declared.load.FocusAnswer.the-variants.{Accepted}
 use Rattle.placing.specs.declared.load.FocusPoints.{FocusPoints}
 use Rattle.placing.specs.declared.named.Window.{Window}
-use Rattle.placing.specs.declared.load.Row.{Row}
-use Rattle.placing.specs.Load.{noPoint, places, refusalNumber, loadNumber, focusMeans, laidOut}
-use Rattle.placing.specs.Inside.{rowOf}
+use Rattle.placing.specs.declared.load.PointPlaces.{PointPlaces}
+use Rattle.placing.specs.Load.{noPoint}
+use Rattle.placing.specs.Laid.{places, refusalNumber, loadNumber, focusMeans, laidOut}
+use Rattle.placing.specs.Inside.{pointPlaces}
 use Rattle.placing.specs.Points.{points as table}
 use Rattle.placing.specs.Named.{listed, hasNumber, indexOf, windowFocus, placedIn}
 use Rattle.placing.proofs.Listed.{present, absent, listed-room}
@@ -22,9 +23,9 @@ use borrow.Author.Needs.{needs}
 use Rattle.placing.proofs.named.placed_in.Statement.{statement}
 use Rattle.placing.proofs.named.placed_in.Tie as tie
 
-module _ (w : Window) (primary mask : ℕ) (mode : FocusAreaMode) (l : Row) (el : l ≡ rowOf (listed w primary mask)) where
+module _ (w : Window) (primary mask : ℕ) (mode : FocusAreaMode) (l : PointPlaces) (el : l ≡ pointPlaces (listed w primary mask)) where
   counted : l .count ≡ length (listed w primary mask)
-  counted = ap (λ (x : Row). x .count) el
+  counted = ap (λ (x : PointPlaces). x .count) el
 
   count-fits : l .count ≤ 39
   count-fits =

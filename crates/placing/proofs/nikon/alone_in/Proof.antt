@@ -5,7 +5,8 @@ use lib.ListN.{set, replicate}
 use Rattle.reading.specs.declared.geometry.Size.{Size}
 use Rattle.reading.specs.declared.focus.FocusAreaMode.{FocusAreaMode}
 use Rattle.placing.specs.declared.focus.FocusPoint.{FocusPoint}
-use Rattle.placing.specs.Load.{loadNumber, focusMeans, laidOut, places, noPoint, alone}
+use Rattle.placing.specs.Load.{noPoint, alone}
+use Rattle.placing.specs.Laid.{loadNumber, focusMeans, laidOut, places}
 use Rattle.placing.specs.declared.load.FocusOrigin.the-variants.{Recorded}
 use Rattle.placing.specs.declared.load.FocusAnswer.the-variants.{Accepted}
 use borrow.Author.Needs.{needs}

@@ -1,11 +1,12 @@
--- `nikon::focus`: the 39 places of each answer of `located`. Assumes nothing.
+-- `nikon::focus`: the 39 places of each answer of `locate`. Assumes nothing.
 use mathlib.Core.Path.{_≡_}
 use Prim.Native.Nat.{ℕ}
 use Rattle.reading.specs.Outcome.{Outcome, refused, accepted}
 use Rattle.reading.specs.declared.geometry.Size.{Size}
 use Rattle.reading.specs.declared.focus.FocusAreaMode.{FocusAreaMode}
 use Rattle.placing.specs.declared.focus.FocusPoint.{FocusPoint}
-use Rattle.placing.specs.Load.{Focus, focusMeans, laidOut, refusalNumber, alone}
+use Rattle.placing.specs.Load.{Focus, alone}
+use Rattle.placing.specs.Laid.{focusMeans, laidOut, refusalNumber}
 use Rattle.placing.specs.Named.{placedIn}
 use Rattle.placing.specs.Inside.{locatedMeans}
 use Rattle.placing.specs.declared.load.FocusPoints.{FocusPoints}

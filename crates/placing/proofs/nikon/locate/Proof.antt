@@ -9,7 +9,8 @@ use Rattle.reading.specs.declared.geometry.OptionalSize.{OptionalSize}
 use Rattle.reading.specs.declared.note.NoteValues.{NoteValues}
 use Rattle.reading.specs.declared.note.NoteAnswer.{NoteAnswer}
 use Rattle.reading.specs.declared.note.NoteAnswer.the-variants.{Unreadable, NoRecord, ManualFocus, BadRecord, Values}
-use Rattle.placing.specs.Load.{Focus, refusalNumber}
+use Rattle.placing.specs.Load.{Focus}
+use Rattle.placing.specs.Laid.{refusalNumber}
 use Rattle.placing.specs.Focus.{focusOf, placedOf}
 use Rattle.placing.specs.Inside.{locatedMeans}
 use Rattle.placing.specs.declared.load.Refusal.the-variants as why

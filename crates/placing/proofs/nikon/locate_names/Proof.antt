@@ -7,7 +7,7 @@ use Rattle.reading.specs.declared.focus.FocusAreaMode.{FocusAreaMode}
 use Rattle.reading.specs.declared.afinfo.NamedPoints.{NamedPoints}
 use Rattle.reading.specs.declared.afinfo.NamedPoints.the-variants as names
 use Rattle.reading.specs.declared.nikon.Crop.{Crop}
-use Rattle.placing.specs.Load.{refusalNumber}
+use Rattle.placing.specs.Laid.{refusalNumber}
 use Rattle.placing.specs.declared.load.Refusal.the-variants.{NamesUnplaced}
 use Rattle.placing.specs.declared.named.Window.{Window}
 use Rattle.placing.specs.declared.named.PlacedFrame.{PlacedFrame}

@@ -12,7 +12,8 @@ use Rattle.reading.specs.declared.nikon.Crop.{Crop}
 use Rattle.reading.specs.declared.nikon.CropArea.{CropArea}
 use Rattle.reading.specs.declared.afinfo.FocusRecord.{FocusRecord}
 use Rattle.placing.specs.declared.focus.FocusPoint.{FocusPoint}
-use Rattle.placing.specs.Load.{Focus, refusalNumber}
+use Rattle.placing.specs.Load.{Focus}
+use Rattle.placing.specs.Laid.{refusalNumber}
 use Rattle.placing.specs.Recorded.{positionOf, positionMeans}
 use Rattle.placing.specs.Named.{namedOutcome}
 use Rattle.placing.specs.Focus.{placedOf, recordsPosition, pointOf}

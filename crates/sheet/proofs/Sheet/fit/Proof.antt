@@ -10,7 +10,7 @@ use Rattle.reading.specs.declared.geometry.Size.{Size}
 use Rattle.placing.specs.declared.focus.FocusPoint.{FocusPoint}
 use Rattle.placing.specs.Fit.{hasZeroSide}
 use Rattle.sheet.specs.declared.Sheet.{Sheet}
-use Rattle.sheet.specs.declared.listing.Listing.{Listing}
+use Rattle.sheet.specs.declared.listing.ListHead.{ListHead}
 use Rattle.sheet.specs.declared.listing.ListAnswer.the-variants.{Empty, ZeroBox, Short, Listed}
 use Rattle.sheet.specs.declared.list.Present.{Present}
 use Rattle.sheet.specs.Sheet.{usable, presentFrame}
@@ -66,7 +66,7 @@ module _ (s : Sheet) (box : Size) (r : Bool) (e : r ≡ usable s) (b : List ℕ)
       all-listed y =
           let k = has-room qs (v .count) (count-room s v ev (counts s r e n)) b out w p y in
           rw (← e, not-false r n, ← ez, t, long s v ev (length b) (k .0)) (
-            ap (λ (l : Listing). listMeans (Listed l)) (head-of s v ev box),
+            ap (λ (l : ListHead). listMeans (Listed l)) (head-of s v ev box),
             k .1 ∙ ap (λ (ps : List FocusPoint). over (flat ps) b) (scaled-listed s box v ev qs g),
           )
 

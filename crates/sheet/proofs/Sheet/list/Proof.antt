@@ -8,7 +8,7 @@ use borrow.Author.Tests.{not-true, not-false}
 use Rattle.placing.specs.declared.focus.FocusPoint.{FocusPoint}
 use Rattle.reading.specs.declared.geometry.Size.{Size}
 use Rattle.sheet.specs.declared.Sheet.{Sheet}
-use Rattle.sheet.specs.declared.listing.Listing.{Listing}
+use Rattle.sheet.specs.declared.listing.ListHead.{ListHead}
 use Rattle.sheet.specs.declared.listing.ListAnswer.the-variants.{Empty, Short, Listed}
 use Rattle.sheet.specs.declared.list.Present.{Present}
 use Rattle.sheet.specs.Sheet.{usable}
@@ -42,7 +42,7 @@ module _ (s : Sheet) (r : Bool) (e : r ≡ usable s) (b : List ℕ) where
     all-listed t =
         let k = has-room (v .points) (v .count) (count-room s v ev (counts s r e n)) b out w p t in
         rw (← e, not-false r n, long s v ev (length b) (k .0)) (
-          ap (λ (l : Listing). listMeans (Listed l)) (head-of s v ev (v .frame) ∙ ap (λ (f : Size). headIn f s) (frame-of s v ev)),
+          ap (λ (l : ListHead). listMeans (Listed l)) (head-of s v ev (v .frame) ∙ ap (λ (f : Size). headIn f s) (frame-of s v ev)),
           k .1 ∙ ap (λ (ps : List FocusPoint). over (flat ps) b) (points-of s v ev),
         )
 

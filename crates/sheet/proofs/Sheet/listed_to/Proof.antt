@@ -4,9 +4,9 @@ use mathlib.Core.Logic.{⊎-elim}
 use Prim.Native.Nat.{_-_, _≤_}
 use native.Mathlib.Omega.{arith}
 use lib.ListN.{length}
-use Rattle.placing.specs.Load.{places}
+use Rattle.placing.specs.Laid.{places}
 use Rattle.sheet.proofs.Most.{all-held}
-use Rattle.placing.specs.declared.load.Row.{Row}
+use Rattle.placing.specs.declared.load.PointPlaces.{PointPlaces}
 use Rattle.sheet.specs.Sheet.{placedAt}
 use Rattle.sheet.specs.Lists.{listing}
 use Rattle.sheet.proofs.Listed.{has-room, one-in, none-in, row-done}
@@ -22,8 +22,8 @@ abbrev μ-loop : tie.MeasureT-loop
 loop-holds : tie.Need-loop-holds Inv-loop μ-loop
 loop-holds c = (
   c .before .before .before .pre .0,
-  ap (λ (r : Row). r .count) (c .before .before .before .pre .3),
-  ap (λ (r : Row). r .points) (c .before .before .before .pre .3),
+  ap (λ (r : PointPlaces). r .count) (c .before .before .before .pre .3),
+  ap (λ (r : PointPlaces). r .points) (c .before .before .before .pre .3),
 )
 
 mul-p : tie.Need-mul-p Inv-loop μ-loop

@@ -1,12 +1,12 @@
 -- `Sheet::load`: loadSheet by what the load comes to, from what `focus` ensures. Assumes nothing.
 use mathlib.Core.Path.{_≡_, sym, ap, _∙_}
 use mathlib.Core.Bool.{true}
-use Prim.Native.Nat.{ℕ}
 use lib.ListN.{replicate}
-use Rattle.reading.specs.Outcome.{Outcome, refused, accepted}
+use Rattle.reading.specs.Outcome.{Outcome, refused}
 use Rattle.placing.specs.declared.load.Refusal.{Refusal}
 use Rattle.placing.specs.declared.load.FocusAnswer.the-variants.{Accepted, Refused}
-use Rattle.placing.specs.Load.{Focus, Laid, refusalNumber, loadNumber, laidOut}
+use Rattle.placing.specs.Load.{Focus}
+use Rattle.placing.specs.Laid.{Laid, refusalNumber, loadNumber, laidOut}
 use Rattle.placing.proofs.Numbers.{numbered-load}
 use Rattle.placing.proofs.Means.{IsLaid, when-refused, when-accepted}
 use Rattle.sheet.specs.declared.Sheet.{Sheet}

@@ -5,7 +5,7 @@ use Rattle.placing.specs.declared.focus.FocusPoint.{FocusPoint}
 use Rattle.sheet.specs.declared.edits.Edit.{Edit}
 use Rattle.sheet.specs.declared.edits.Edit.the-variants.{Turn, Mirror, Cut}
 use Rattle.sheet.specs.declared.edits.Carried.{Carried}
-use Rattle.placing.specs.FittingLaws.{swapped}
+use Rattle.placing.specs.Fit.{swapped}
 use Rattle.sheet.specs.Place.{turnedPoint, mirroredPoint, cutPoint, moved}
 use borrow.Author.Needs.{needs}
 use Rattle.sheet.proofs.edits.move_by.Statement.{statement}

@@ -3,7 +3,7 @@ use mathlib.Core.Path.{_≡_}
 use Prim.Native.Nat.{ℕ, _-_}
 use Rattle.reading.specs.declared.geometry.Size.{Size}
 use Rattle.placing.specs.declared.focus.FocusPoint.{FocusPoint}
-use Rattle.placing.specs.FittingLaws.{swapped}
+use Rattle.placing.specs.Fit.{swapped}
 use Rattle.sheet.specs.Place.{point, movedTo, turnedPoint}
 use borrow.Author.Needs.{needs}
 use Rattle.sheet.proofs.edits.turned_point.Statement.{statement}

@@ -3,14 +3,15 @@ use mathlib.Core.Path.{_≡_}
 use mathlib.Core.List.{List, []}
 use lib.ListN.{replicate}
 use Rattle.placing.specs.declared.focus.FocusPoint.{FocusPoint}
-use Rattle.placing.specs.Load.{noPoint, places}
-use Rattle.placing.specs.Inside.{rowOf}
-use Rattle.placing.specs.declared.load.Row.{Row}
+use Rattle.placing.specs.Load.{noPoint}
+use Rattle.placing.specs.Laid.{places}
+use Rattle.placing.specs.Inside.{pointPlaces}
+use Rattle.placing.specs.declared.load.PointPlaces.{PointPlaces}
 use borrow.Author.Needs.{needs}
 use Rattle.sheet.proofs.list.empty_row.Statement.{statement}
 use Rattle.sheet.proofs.list.empty_row.Tie as tie
 
-no-row : (ps : List FocusPoint) → ps ≡ replicate 39 noPoint → _≡_ {A = Row} (record { points = ps; count = 0 }) (rowOf [])
+no-row : (ps : List FocusPoint) → ps ≡ replicate 39 noPoint → _≡_ {A = PointPlaces} (record { points = ps; count = 0 }) (pointPlaces [])
 unfolding places
 no-row ps e = rw e
 
