@@ -11,21 +11,21 @@ use lib.Dec.{eqb}
 use lib.ListN.{length, take, drop, length-take}
 use lib.Seq.{sets-eq, take-at, drop-at, take-all, take-append-le, length-take-le, take-nil}
 use native.Mathlib.Omega.{arith}
-use borrow.Author.Tests.{ne-eqb}
+use borrow.Author.Tests.{ne-eqb, lt-leb}
 use Rattle.laws.proofs.Tests.{by-bool, by-order}
 use Rattle.text.specs.Put.{Put}
 use Rattle.text.proofs.Laws.{put-room}
 use Rattle.sheet.specs.declared.Sheet.{Sheet}
 use Rattle.sheet.specs.Sheet.{freshSheet}
 use Rattle.session.specs.Lines.{spelled}
-use Rattle.session.specs.Answering.{sheetText, sheetNext, sheetTexts}
+use Rattle.session.specs.Answering.{mostText, sheetText, sheetNext, sheetTexts}
 use Rattle.session.proofs.Claim.{lines-claim}
 use Rattle.session.proofs.Laws.{line-cut}
 use Rattle.script.specs.Script.{linesFrom, scriptText}
 use Rattle.stream.specs.declared.Fed.{Fed}
-use Rattle.stream.specs.Stream.{lineRoom, kept, heldAfterPiece, sheetAfterPiece, pieceText, lastText, Taken}
+use Rattle.stream.specs.Stream.{lineRoom, kept, heldAfterPiece, sheetAfterPiece, pieceText, lastText, Taken, Feeds}
 use Rattle.stream.specs.Claim.{between, FedCalls, none-yet, one-more, StreamClaim, OneOutcome}
-use Rattle.stream.proofs.Pieces.{held-app, sheet-app, text-app, held-nil, sheet-nil, text-nil}
+use Rattle.stream.proofs.Pieces.{held-app, sheet-app, text-app, held-nil, sheet-nil, text-nil, used-stop}
 
 -- ---- a script in one piece
 take-kept : (c : ℕ) (l : List ℕ) → take lineRoom (l ++ (c ∷ [])) ≡ kept (take lineRoom l) c
@@ -83,20 +83,33 @@ laid-between {o} {t} {o₁} {a} {a₁} p f =
     drop-at (take a o) (t ++ drop (a + length t) o) a (length-take-le a o (omega arith)) in
     rw (k, e, d) (take-at t (drop (a + length t) o) (length t) refl)
 
+-- so does what a call wrote: from a place past the buffer's end it uses nothing
+written : {s : Sheet} {l h input o o₁ l₁ : List ℕ} {a : ℕ} {r : Fed} → Feeds s l h input o a o₁ l₁ r
+    → between a (r .at) o₁ ≡ pieceText s h (take (r .used) input)
+written {s} {l} {h} {input} {o} {o₁} {l₁} {a} {r} p =
+    ⊎-elim
+    (λ (g : length o < a).
+    let z : r .used ≡ 0 = p .used-is ∙ used-stop (length o) s h a input (lt-leb (a + mostText) (length o) (omega arith)) in
+    let e : pieceText s h (take (r .used) input) ≡ [] = rw z (text-nil s h) in
+    let k : r .at - a ≡ 0 = omega (arith, p .put .place, ap length e) in
+    rw (k, e))
+    (λ (g : a ≤ length o). laid-between (p .put) (p .none-cut g))
+    (by-order (length o) a)
+
 record SoFar (script text : List ℕ) (s : Sheet) (h : List ℕ) : Type 0 where
-  written : text ≡ pieceText freshSheet [] script
+  texts : text ≡ pieceText freshSheet [] script
   sheet : s ≡ sheetAfterPiece freshSheet [] script
   held : h ≡ heldAfterPiece [] script
 
 so-far : {script text line : List ℕ} {s : Sheet} {held : ℕ} → FedCalls script text s line held → SoFar script text s (take held line)
 so-far (none-yet line) =
-    record { written = sym (text-nil freshSheet []); sheet = sym (sheet-nil freshSheet []); held = sym (held-nil []) }
-so-far (one-more {script} {text} {line} {s} {held} input before at after line₁ r calls inside p) =
+    record { texts = sym (text-nil freshSheet []); sheet = sym (sheet-nil freshSheet []); held = sym (held-nil []) }
+so-far (one-more {script} {text} {line} {s} {held} input before at after line₁ r calls p) =
     let q : SoFar script text s (take held line) = so-far calls in
     let u : List ℕ = take (r .used) input in
-    let w : between at (r .at) after ≡ pieceText s (take held line) u = laid-between (p .put) (p .none-cut inside) in
+    let w : between at (r .at) after ≡ pieceText s (take held line) u = written p in
     record {
-      written = rw (w, q .written, q .sheet, q .held) (sym (text-app freshSheet [] script u));
+      texts = rw (w, q .texts, q .sheet, q .held) (sym (text-app freshSheet [] script u));
       sheet = p .taken .sheet-after ∙ rw (q .sheet, q .held) (sym (sheet-app freshSheet [] script u));
       held = p .taken .holding .held-after ∙ rw (q .held) (sym (held-app [] script u));
     }
@@ -105,7 +118,7 @@ pub stream-claim : StreamClaim
 stream-claim script text line s held before at after next calls room p =
     let q : SoFar script text s (take held line) = so-far calls in
     let w : between at next after ≡ lastText s (take held line) = laid-between (p .put) (omega (arith, room, p .short)) in
-    rw (w, q .written, q .sheet, q .held) (one-piece script)
+    rw (w, q .texts, q .sheet, q .held) (one-piece script)
 
 -- ---- one outcome: what is used, then the sheet, both buffers, the place, and how much is held
 fed-one : {r r₁ : Fed} → r .sheet ≡ r₁ .sheet → r .held ≡ r₁ .held → r .at ≡ r₁ .at → r .used ≡ r₁ .used → r ≡ r₁

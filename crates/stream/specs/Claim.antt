@@ -16,12 +16,11 @@ abbrev pub between : ℕ → ℕ → List ℕ → List ℕ
 between at next buffer = take (next - at) (drop at buffer)
 
 -- calls of `feed`: the first with the fresh sheet and nothing held, each other one with the sheet, the line and the count that the one
--- before left, at any place of any buffer. `script` is what they used, `text` is what they wrote
+-- before left, with any piece and at any place of any buffer. `script` is what they used, `text` is what they wrote
 pub data FedCalls : List ℕ → List ℕ → Sheet → List ℕ → ℕ → Type 0 where
   none-yet : (line : List ℕ) → FedCalls [] [] freshSheet line 0
   one-more : {script text line : List ℕ} {s : Sheet} {held : ℕ} (input before : List ℕ) (at : ℕ) (after line₁ : List ℕ) (r : Fed)
       → FedCalls script text s line held
-      → at ≤ length before
       → Feeds s line (take held line) input before at after line₁ r
       → FedCalls (script ++ take (r .used) input) (text ++ between at (r .at) after) (r .sheet) line₁ (r .held)
 
