@@ -19,8 +19,8 @@ pub record ServesOnce (s : Sheet) (line₀ h input line out : List ℕ) (r : Onc
   pub used-part : r .used ≤ length input
   pub used-some : 0 < length input → 0 < r .used
 
--- a part of the input is used from its start on: all of it, and it goes on, where every write went out, as the writes have answered;
--- else some of it, if there is any
+-- a part of the input is used from its start on: all of it, and it goes on, where `sent` says that every write went out; else some of
+-- it, if there is any
 pub record Serves (s : Sheet) (line₀ h input line : List ℕ) (r : After) : Type 0 where
   pub used : ℕ
   pub taken : Taken s line₀ h (take used input) (r .sheet) line (r .held)
