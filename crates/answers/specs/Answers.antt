@@ -4,8 +4,8 @@ use mathlib.Core.List.{List, [], _∷_, _++_}
 use lib.ListN.{getD}
 use Rattle.text.specs.Number.{digitsOf, pair}
 
-abbrev pub feed : List ℕ
-feed = 10 ∷ []
+abbrev pub lineFeed : List ℕ
+lineFeed = 10 ∷ []
 
 -- the words of the lines, with the spaces around them
 abbrev pub space : List ℕ
@@ -42,7 +42,7 @@ okText = 111 ∷ 107 ∷ 10 ∷ []
 
 -- "`no N`"
 unfoldable pub noText : ℕ → List ℕ
-noText n = pair noWord n ++ feed
+noText n = pair noWord n ++ lineFeed
 
 -- the first n numbers of a list, each after a space
 unfoldable pub nextAll : List ℕ → ℕ → List ℕ
@@ -51,7 +51,7 @@ nextAll ws (suc n) = nextAll ws n ++ next (getD ws n 0)
 
 -- "`tags` with count and tags in decimal (unused places not printed)"
 unfoldable pub tagsText : ℕ → List ℕ → List ℕ
-tagsText count tags = pair tagsWord count ++ nextAll tags count ++ feed
+tagsText count tags = pair tagsWord count ++ nextAll tags count ++ lineFeed
 
 -- "for list and fit a head line": `frame W H points N primary P mode M origin O`, of the six numbers that a listing gives
 unfoldable pub headText : List ℕ → List ℕ
@@ -62,7 +62,7 @@ headText given =
     ++ pair primaryWord (getD given 3 0)
     ++ pair modeWord (getD given 4 0)
     ++ pair originWord (getD given 5 0)
-    ++ feed
+    ++ lineFeed
 
 -- "one line a point with its six numbers": point i of a buffer
 unfoldable pub pointText : List ℕ → ℕ → List ℕ
@@ -73,7 +73,7 @@ pointText ws i =
     ++ next (getD ws (i * 6 + 3) 0)
     ++ next (getD ws (i * 6 + 4) 0)
     ++ next (getD ws (i * 6 + 5) 0)
-    ++ feed
+    ++ lineFeed
 
 -- the lines of the first n points
 unfoldable pub pointsText : List ℕ → ℕ → List ℕ

@@ -13,7 +13,7 @@ use borrow.Author.Tests.{ltb-false}
 use Rattle.laws.proofs.Tests.{by-bool}
 use Rattle.reading.specs.Outcome.{Outcome, refused, accepted}
 use Rattle.reading.specs.Block.{blockOf}
-use Rattle.reading.specs.Contents.{Holds, keptTags, listed, ContentsOf, contentsIn, contentsOf}
+use Rattle.reading.specs.Contents.{Holds, keptTags, tagPlaces, ContentsOf, contentsIn, contentsOf}
 use Rattle.numbers.specs.declared.io.ByteOrder.{ByteOrder}
 use Rattle.reading.specs.declared.nikon.TagList.{TagList}
 use Rattle.reading.specs.declared.nikon.ContentsAnswer.the-variants.{Unreadable, Tags}
@@ -24,7 +24,7 @@ use Rattle.focuspoints.specs.Contents.{contentsNumberOf, contentsBufferO
 apart : {A : Type 0} → Unreadable ≡ Tags → A
 apart e = let y : _≡_ {A = ℕ} 0 1 = cc in absurd (omega arith)
 
-four-places : (o : ByteOrder) (s : List ℕ) → length (keptTags o s) ≤ 4 → length (listed (keptTags o s) .tags) ≡ 4
+four-places : (o : ByteOrder) (s : List ℕ) → length (keptTags o s) ≤ 4 → length (tagPlaces (keptTags o s) .tags) ≡ 4
 four-places o s h =
     let ts = keptTags o s in
     length-append ts (replicate (4 - length ts) 0) ∙ rw (length-replicate {A = ℕ} (4 - length ts) 0) (omega arith)
@@ -42,8 +42,8 @@ told wanted n ts l l′ e h el x =
     }
 
 module _ (s l : List ℕ) where
-  tells : (o : ByteOrder) (n : ℕ) (l′ : List ℕ) → length (keptTags o s) ≤ 4 → Holds (keptTags o s) (length (keptTags o s)) (listed (keptTags o s) .tags)
-      → n ≡ roomNumber 5 (length l) → l′ ≡ withNumbers 5 (length (keptTags o s) ∷ listed (keptTags o s) .tags) l
+  tells : (o : ByteOrder) (n : ℕ) (l′ : List ℕ) → length (keptTags o s) ≤ 4 → Holds (keptTags o s) (length (keptTags o s)) (tagPlaces (keptTags o s) .tags)
+      → n ≡ roomNumber 5 (length l) → l′ ≡ withNumbers 5 (length (keptTags o s) ∷ tagPlaces (keptTags o s) .tags) l
       → tellsIn (ltb (length l) 5) (keptTags o s) l n l′
   unfolding roomNumber withNumbers
   tells o n l′ k x en el =
@@ -51,7 +51,7 @@ module _ (s l : List ℕ) where
       (λ (t : ltb (length l) 5 ≡ true). rw t (en ∙ rw t, el ∙ rw t))
       (λ (t : ltb (length l) 5 ≡ false).
       rw t
-      (en ∙ rw t, told (keptTags o s) (length (keptTags o s)) (listed (keptTags o s) .tags) l l′ (four-places o s k) (ltb-false (length l) 5 t) (el ∙ rw t) x))
+      (en ∙ rw t, told (keptTags o s) (length (keptTags o s)) (tagPlaces (keptTags o s) .tags) l l′ (four-places o s k) (ltb-false (length l) 5 t) (el ∙ rw t) x))
       (by-bool (ltb (length l) 5))
 
   no-tags : (b : Outcome ByteOrder) (r : TagList) → r ≡ contentsIn b s → r .answer ≡ Unreadable
@@ -66,7 +66,7 @@ module _ (s l : List ℕ) where
   unfolding contentsIn contentsNumberOf contentsBufferOf Tells ContentsOf
   some-tags (refused m) r n l′ e k x f p = apart (sym (ap (λ (y : TagList). y .answer) e) ∙ f)
   some-tags (accepted o) r n l′ e k x f p =
-      let t : l′ ≡ withNumbers 5 (length (keptTags o s) ∷ listed (keptTags o s) .tags) l =
+      let t : l′ ≡ withNumbers 5 (length (keptTags o s) ∷ tagPlaces (keptTags o s) .tags) l =
       p .1 ∙ ap (λ (y : TagList). withNumbers 5 (y .count ∷ y .tags) l) e in
       (p .0, t, tells o n l′ (rw e at k) (rw e at x) (p .0) t)
 

@@ -30,7 +30,7 @@ use Rattle.sheet.specs.declared.Sheet.{Sheet}
 use Rattle.sheet.specs.Place.{wordsOf, moved, placed, cutPasses}
 use Rattle.sheet.specs.Sheet.{leaves, freshSheet, loadedSheet, loadSheet, usable, placedAt, presentFrame as frameOf, withEdits, addEdit, ifOpen, turnSheet, mirrorSheet, keepsPrimary, cutSheet, backSheet}
 use Rattle.sheet.specs.Listing.{headNumbers, flat}
-use Rattle.sheet.specs.Lists.{listed as listedOf, listCount, listIndex, isShort, headIn, listOutcome, listBuffer, scaledAll, fitOutcome, fitBuffer}
+use Rattle.sheet.specs.Lists.{listing as sheetListing, listCount, listIndex, isShort, headIn, listOutcome, listBuffer, scaledAll, fitOutcome, fitBuffer}
 use Rattle.sheet.proofs.Buffer.{flat-length}
 use Rattle.placing.proofs.Places.{length-places, take-places}
 use Rattle.sheet.proofs.Words.{stored-last}
@@ -40,7 +40,7 @@ use Rattle.journal.specs.SheetCalls.{numbered, afterEdit, afterList, cha
 use Rattle.journal.specs.Claim.{Claim}
 use Rattle.journal.proofs.Carry.{but-last}
 use Rattle.placing.proofs.Numbers.{Numbered, number, numbered-load}
-use Rattle.journal.proofs.Placed.{changeOf, pointOf, rowAt, row-count, row-kept, placed-frame, placed-more, placed-point, listing-is, flat-numbers}
+use Rattle.journal.proofs.Placed.{changeOf, pointOf, rowAt, row-count, row-kept, placed-frame, placed-more, placed-point, listed-to-is, flat-numbers}
 
 -- ---- the journal that a sheet stands for
 abbrev loadOf : Sheet → Focus
@@ -231,14 +231,14 @@ backs s h =
     by false q = rw (row-count (s .edits) (s .standing)) at (fewer s h (eqb-false (s .standing) 0 q))
 
 -- ---- list and fit
-listed-held : (s : Sheet) → Held s → listedOf s ≡ listing (loadOf s) (rowOf s)
-unfolding listedOf
-listed-held s h = listing-is s (s .count) (omega (arith, h .counted, h .filled))
+listed-held : (s : Sheet) → Held s → sheetListing s ≡ listing (loadOf s) (rowOf s)
+unfolding sheetListing
+listed-held s h = listed-to-is s (s .count) (omega (arith, h .counted, h .filled))
 
 index-held : (s : Sheet) → Held s → listIndex s ≡ primaryIndex (loadOf s) (rowOf s)
 unfolding listIndex
 index-held s h =
-    ap length (listing-is s (s .primary) (omega (arith, h .primed, h .counted, h .filled)))
+    ap length (listed-to-is s (s .primary) (omega (arith, h .primed, h .counted, h .filled)))
     ∙ ap (λ (ps : List FocusPoint). length (listed (s .frame) (rowOf s) ps))
     (sym (take-take (s .primary) (s .count) (s .points) (le-of-lt (h .primed))))
 

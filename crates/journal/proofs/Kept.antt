@@ -17,7 +17,7 @@ use Rattle.sheet.specs.declared.Sheet.{Sheet}
 use Rattle.sheet.specs.Sheet.{leaves, loadSheet, usable, presentFrame, withEdits, addEdit, ifOpen, turnSheet, mirrorSheet, keepsPrimary, cutSheet, backSheet}
 use Rattle.sheet.specs.Place.{cutPasses}
 use Rattle.sheet.specs.Listing.{headNumbers, over, flat}
-use Rattle.sheet.specs.Lists.{listed as listedOf, isShort, headIn, scaledAll, listOutcome, listBuffer, fitOutcome, fitBuffer}
+use Rattle.sheet.specs.Lists.{listing as sheetListing, isShort, headIn, scaledAll, listOutcome, listBuffer, fitOutcome, fitBuffer}
 use Rattle.journal.specs.Journal.{Change, cut, turn, mirror, Answer}
 use Rattle.journal.specs.Calls.{Call, load, change, back, list, fit, lent}
 use Rattle.journal.specs.SheetCalls.{afterEdit, afterList, changed, sheetStep}
@@ -80,7 +80,7 @@ lists : (s : Sheet) (b : List ℕ) → Keeps (afterList (listOutcome s (length b
 unfolding listOutcome listBuffer
 lists s b = by (usable s) (isShort s (length b))
   where
-    by : (u v : Bool) → Keeps (afterList (cond u (cond v (refused 13) (accepted (headNumbers (headIn (presentFrame s) s)))) (refused 7)) (cond u (cond v b (over (flat (listedOf s)) b)) b) s) s b
+    by : (u v : Bool) → Keeps (afterList (cond u (cond v (refused 13) (accepted (headNumbers (headIn (presentFrame s) s)))) (refused 7)) (cond u (cond v b (over (flat (sheetListing s)) b)) b) s) s b
     by true true = inr (refl, refl)
     by true false = inl refl
     by false v = inr (refl, refl)
@@ -89,7 +89,7 @@ fits : (s : Sheet) (box : Size) (b : List ℕ) → Keeps (afterList (fitOutcome 
 unfolding fitOutcome fitBuffer
 fits s box b = by (usable s) (hasZeroSide box) (isShort s (length b))
   where
-    by : (u z v : Bool) → Keeps (afterList (cond u (cond z (refused 12) (cond v (refused 13) (accepted (headNumbers (headIn box s))))) (refused 7)) (cond u (cond z b (cond v b (over (flat (scaledAll (presentFrame s) box (listedOf s))) b))) b) s) s b
+    by : (u z v : Bool) → Keeps (afterList (cond u (cond z (refused 12) (cond v (refused 13) (accepted (headNumbers (headIn box s))))) (refused 7)) (cond u (cond z b (cond v b (over (flat (scaledAll (presentFrame s) box (sheetListing s))) b))) b) s) s b
     by true true v = inr (refl, refl)
     by true false true = inr (refl, refl)
     by true false false = inl refl

@@ -17,7 +17,7 @@ use Rattle.sheet.specs.declared.edits.Carried.{Carried}
 use Rattle.sheet.specs.declared.Sheet.{Sheet}
 use Rattle.sheet.specs.Place.{editAt, staysOn, cutPoint, moved, placed}
 use Rattle.sheet.specs.Sheet.{placedAt}
-use Rattle.sheet.specs.Lists.{ifCarried, listing}
+use Rattle.sheet.specs.Lists.{ifCarried, listedTo}
 use Rattle.sheet.specs.Listing.{six, flat}
 use Rattle.sheet.proofs.Words.{stored-kept}
 use Rattle.journal.specs.Journal.{Change, cut, turn, mirror, frameBy, movedBy, frameAfter, carried, ifListed, listed, numbers}
@@ -97,15 +97,15 @@ if-listed q = by (q .listed)
     by true = refl
     by false = refl
 
-pub listing-is : (s : Sheet) (i : ℕ) → i ≤ length (s .points)
-    → listing s i ≡ listed (s .frame) (rowAt (s .edits) (s .standing)) (take i (s .points))
-unfolding listing listed placedAt
-listing-is s zero a = refl
-listing-is s (suc i) a =
+pub listed-to-is : (s : Sheet) (i : ℕ) → i ≤ length (s .points)
+    → listedTo s i ≡ listed (s .frame) (rowAt (s .edits) (s .standing)) (take i (s .points))
+unfolding listedTo listed placedAt
+listed-to-is s zero a = refl
+listed-to-is s (suc i) a =
     let p = getD (s .points) i noPoint in
     let row = rowAt (s .edits) (s .standing) in
     ap₂ (λ (l m : List FocusPoint). l ++ m)
-    (listing-is s i (omega arith))
+    (listed-to-is s i (omega arith))
     (if-listed (placedAt s i) ∙ ap ifListed (placed-point (s .frame) p (s .edits) (s .standing)))
     ∙ sym (listed-snoc (s .frame) row (take i (s .points)) p)
     ∙ sym (ap (listed (s .frame) row) (take-suc (s .points) i noPoint a))

@@ -9,19 +9,19 @@ use Rattle.reading.specs.declared.focus.FocusAreaMode.{FocusAreaMode}
 use Rattle.reading.specs.declared.afinfo.NamedPoints.the-variants.{NoNames, Named}
 use Rattle.placing.specs.declared.named.Window.{Window}
 use Rattle.placing.specs.Points.{points}
-use Rattle.placing.specs.Named.{listed, hasNumber, windowFocus, placedIn, windowOf, namedOutcome, NamedSound}
+use Rattle.placing.specs.Named.{listedPoints, hasNumber, windowFocus, placedIn, windowOf, namedOutcome, NamedSound}
 use Rattle.placing.specs.Sound.{Sound}
 use Rattle.placing.proofs.Listed.{present, listed-room, listed-fit}
 
 module _ (primary mask : ℕ) (mode : FocusAreaMode) where
   in-window : (w : Window) → Sound (placedIn (accepted w) primary mask mode)
   unfolding placedIn
-  in-window w = here (hasNumber primary (listed w primary mask)) refl
+  in-window w = here (hasNumber primary (listedPoints w primary mask)) refl
     where
-      here : (b : Bool) → hasNumber primary (listed w primary mask) ≡ b →
+      here : (b : Bool) → hasNumber primary (listedPoints w primary mask) ≡ b →
           Sound (cond b (accepted (windowFocus w primary mask mode)) (refused 6))
       here true e =
-          let i = present primary (listed w primary mask) e in
+          let i = present primary (listedPoints w primary mask) e in
           record {
             count-some = omega (arith, i);
             room = listed-room w primary mask points;

@@ -34,11 +34,11 @@ use Rattle.placing.specs.Fit.{hasZeroSide, pointFits, sameSize}
 use Rattle.placing.specs.Scale.{scaledPoint}
 use Rattle.placing.specs.Focus.{pointOf, recordsPosition, placedOf, focusOf, LoadNumbers}
 use Rattle.placing.specs.Load.{alone, Focus}
-use Rattle.placing.specs.Named.{dx, samePlace, noneOr, onCrop, uncropped, placedFrame, listed, hasNumber, windowFocus, placedIn, windowBy, windowOf, namedOutcome}
+use Rattle.placing.specs.Named.{dx, samePlace, noneOr, onCrop, uncropped, placedFrame, listedPoints, hasNumber, windowFocus, placedIn, windowBy, windowOf, namedOutcome}
 use Rattle.placing.specs.Points.{tableOf}
 use Rattle.placing.specs.declared.points.PointTable.{PointTable}
 use Rattle.placing.specs.declared.points.PointTable.the-variants.{NoTable, NikonD600}
-use Rattle.placing.specs.Recorded.{at, scaledTo, shifts, movedPoint, inWindow, ontoWindow, ontoPicture, shapedWindow, onto, cutOf, byCrop, positionOf}
+use Rattle.placing.specs.Recorded.{pointIn, scaledTo, shifts, movedPoint, inWindow, ontoWindow, ontoPicture, shapedWindow, onto, cutOf, byCrop, positionOf}
 use Rattle.placing.specs.declared.named.Window.{Window as Part}
 use Rattle.placing.specs.declared.recorded.CutSides.{CutSides}
 use Rattle.placing.specs.declared.recorded.CutSides.the-variants.{Other, Both, Width, Height}
@@ -112,11 +112,11 @@ unfolding inWindow
 inside p f w =
     either
     (shifts (p .center .x) (f .width) (w .width) && shifts (p .center .y) (f .height) (w .height) && pointFits w (movedPoint p f w))
-    (at w (movedPoint p f w)) (refused 5) fine at-5
+    (pointIn w (movedPoint p f w)) (refused 5) fine at-5
 
 window : (c : CutSides) (p : FocusPoint) (f w : Size) → Numbered (ontoWindow c p f w)
 unfolding scaledTo
-window Both p f w = either (hasZeroSide w) (refused 5) (at w (scaledPoint p f w)) at-5 fine
+window Both p f w = either (hasZeroSide w) (refused 5) (pointIn w (scaledPoint p f w)) at-5 fine
 window Width p f w = either (eqb (w .height) (f .height)) (inWindow p f w) (refused 5) (inside p f w) at-5
 window Height p f w = either (eqb (w .width) (f .width)) (inWindow p f w) (refused 5) (inside p f w) at-5
 window Other p f w = at-5
@@ -130,7 +130,7 @@ target c p f Absent (Given t) = either (hasZeroSide t) (refused 5) _ at-5 (windo
 
 crop : (p : FocusPoint) (f : Size) (k : Crop) (a : CropArea) (t : OptionalSize) → Numbered (byCrop p f k a t)
 crop p f NoCrop a t = fine
-crop p f (Stated c) a t = either (sameSize (c .cropped) (c .original)) (at f p) (onto (cutOf c) p f a t) fine (target (cutOf c) p f a t)
+crop p f (Stated c) a t = either (sameSize (c .cropped) (c .original)) (pointIn f p) (onto (cutOf c) p f a t) fine (target (cutOf c) p f a t)
 
 position : (p : FocusPoint) (f : Size) (k : Crop) (a : CropArea) (t : OptionalSize) → Numbered (positionOf p f k a t)
 unfolding positionOf
@@ -151,7 +151,7 @@ inFrame : (w : Outcome Part) (primary mask : ℕ) (m : FocusAreaMode) → Number
 unfolding placedIn
 inFrame (refused n) primary mask m (number _ a b) = number n a b
 inFrame (accepted w) primary mask m h =
-    either (hasNumber primary (listed w primary mask)) (accepted (windowFocus w primary mask m)) (refused 6) fine at-6
+    either (hasNumber primary (listedPoints w primary mask)) (accepted (windowFocus w primary mask m)) (refused 6) fine at-6
 
 table : (p : PointTable) (code : ℕ) (k : Crop) (t : OptionalSize) → Numbered (windowBy p code k t)
 table NoTable code k t = at-6

@@ -16,7 +16,7 @@ use Rattle.placing.specs.Fit.{hasZeroSide, pointFits, sameSize}
 use Rattle.placing.specs.Scale.{scaledPoint}
 use Rattle.placing.proofs.Scaled.{scaled-fits}
 use Rattle.laws.proofs.Tests.{by-cond, both}
-use Rattle.placing.specs.Recorded.{Placement, at, cutOf, scaledTo, shifts, movedPoint, inWindow, ontoWindow, shapedWindow, ontoPicture, onto, byCrop, positionOf}
+use Rattle.placing.specs.Recorded.{Placement, pointIn, cutOf, scaledTo, shifts, movedPoint, inWindow, ontoWindow, shapedWindow, ontoPicture, onto, byCrop, positionOf}
 use Rattle.placing.specs.declared.recorded.CutSides.{CutSides}
 use Rattle.placing.specs.declared.recorded.CutSides.the-variants.{Other, Both, Width, Height}
 
@@ -26,20 +26,20 @@ Fits (refused n) = Unit {0}
 Fits (accepted q) = pointFits (q .frame) (q .point) ≡ true
 
 module _ (p : FocusPoint) (f : Size) (h : pointFits f p ≡ true) where
-  as-recorded : Fits (at f p)
+  as-recorded : Fits (pointIn f p)
   unfolding Fits
   as-recorded = h
 
   scaled : (t : Size) → Fits (scaledTo p f t)
   unfolding Fits scaledTo
-  scaled t = by-cond Fits (hasZeroSide t) {x = refused 5} {y = at t (scaledPoint p f t)} (λ e. tt) (λ e. scaled-fits p f t h e)
+  scaled t = by-cond Fits (hasZeroSide t) {x = refused 5} {y = pointIn t (scaledPoint p f t)} (λ e. tt) (λ e. scaled-fits p f t h e)
 
   moved : (w : Size) → Fits (inWindow p f w)
   unfolding Fits inWindow
   moved w =
       by-cond Fits
       (shifts (p .center .x) (f .width) (w .width) && shifts (p .center .y) (f .height) (w .height) && pointFits w (movedPoint p f w))
-      {x = at w (movedPoint p f w)} {y = refused 5}
+      {x = pointIn w (movedPoint p f w)} {y = refused 5}
       (λ e. both (shifts (p .center .x) (f .width) (w .width) && shifts (p .center .y) (f .height) (w .height)) (pointFits w (movedPoint p f w)) e .1)
       (λ e. tt)
 
@@ -66,7 +66,7 @@ module _ (p : FocusPoint) (f : Size) (h : pointFits f p ≡ true) where
   unfolding Fits
   of-crop NoCrop a t = h
   of-crop (Stated c) a t =
-      by-cond Fits (sameSize (c .cropped) (c .original)) {x = at f p} {y = onto (cutOf c) p f a t} (λ e. h) (λ e. on-crop (cutOf c) a t)
+      by-cond Fits (sameSize (c .cropped) (c .original)) {x = pointIn f p} {y = onto (cutOf c) p f a t} (λ e. h) (λ e. on-crop (cutOf c) a t)
 
 pub position-fits : (p : FocusPoint) (f : Size) (k : Crop) (a : CropArea) (t : OptionalSize) → Fits (positionOf p f k a t)
 unfolding Fits positionOf

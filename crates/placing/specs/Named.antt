@@ -113,8 +113,8 @@ listedFrom w primary mask [] = []
 listedFrom w primary mask (p ∷ ps) =
     cond (isListed w primary mask p) (lessOrigin w p ∷ listedFrom w primary mask ps) (listedFrom w primary mask ps)
 
-abbrev pub listed : Window → ℕ → ℕ → List FocusPoint
-listed w primary mask = listedFrom w primary mask points
+abbrev pub listedPoints : Window → ℕ → ℕ → List FocusPoint
+listedPoints w primary mask = listedFrom w primary mask points
 
 -- whether a list has a point of a number
 unfoldable pub hasNumber : ℕ → List FocusPoint → Bool
@@ -131,8 +131,8 @@ abbrev pub windowFocus : Window → ℕ → ℕ → FocusAreaMode → Focus
 windowFocus w primary mask mode =
     record {
       frame = w .frame;
-      points = listed w primary mask;
-      primary = indexOf primary (listed w primary mask);
+      points = listedPoints w primary mask;
+      primary = indexOf primary (listedPoints w primary mask);
       mode = mode;
       origin = Table;
     }
@@ -141,7 +141,7 @@ windowFocus w primary mask mode =
 unfoldable pub placedIn : Outcome Window → ℕ → ℕ → FocusAreaMode → Outcome Focus
 placedIn (refused n) primary mask mode = refused n
 placedIn (accepted w) primary mask mode =
-    cond (hasNumber primary (listed w primary mask)) (accepted (windowFocus w primary mask mode)) (refused 6)
+    cond (hasNumber primary (listedPoints w primary mask)) (accepted (windowFocus w primary mask mode)) (refused 6)
 
 -- "The model must match in full, and the layout code", which is 3
 abbrev pub windowBy : PointTable → ℕ → Crop → OptionalSize → Outcome Window

@@ -24,13 +24,13 @@ pub record Placement : Type 0 where
   pub frame : Size
   pub point : FocusPoint
 
-abbrev pub at : Size → FocusPoint → Outcome Placement
-at f p = accepted (record { frame = f; point = p })
+abbrev pub pointIn : Size → FocusPoint → Outcome Placement
+pointIn f p = accepted (record { frame = f; point = p })
 
 -- what the code's answer means in 01's numbers
 abbrev pub positionMeans : Position → Outcome Placement
 positionMeans Unplaced = refused 5
-positionMeans (Placed f p) = at f p
+positionMeans (Placed f p) = pointIn f p
 
 -- "Cropped less on both sides"; "Less on one, equal on the other"; "Any other crop"
 unfoldable pub cutBetween : Size → Size → CutSides
@@ -45,7 +45,7 @@ cutOf c = cutBetween (c .original) (c .cropped)
 
 -- "scale to the target (a zero side: 5)"
 unfoldable pub scaledTo : FocusPoint → Size → Size → Outcome Placement
-scaledTo p f t = cond (hasZeroSide t) (refused 5) (at t (scaledPoint p f t))
+scaledTo p f t = cond (hasZeroSide t) (refused 5) (pointIn t (scaledPoint p f t))
 
 -- "floor((frame − window)/2)": one axis
 unfoldable pub offsetIn : ℕ → ℕ → ℕ
@@ -75,7 +75,7 @@ inWindow p f w =
     cond
     (shifts (p .center .x) (f .width) (w .width) && shifts (p .center .y) (f .height) (w .height) &&
     pointFits w (movedPoint p f w))
-    (at w (movedPoint p f w))
+    (pointIn w (movedPoint p f w))
     (refused 5)
 
 -- "The uncut side must equal the frame's"
@@ -99,14 +99,14 @@ ontoPicture cut p f t = cond (hasZeroSide t) (refused 5) (ontoWindow cut p f (sh
 abbrev pub onto : CutSides → FocusPoint → Size → CropArea → OptionalSize → Outcome Placement
 onto cut p f Unusable picture = refused 5
 onto cut p f (Window w) picture = ontoWindow cut p f w
-onto cut p f Absent Missing = at f p
+onto cut p f Absent Missing = pointIn f p
 onto cut p f Absent (Given t) = ontoPicture cut p f t
 
 -- "No crop, or cropped = original: as recorded."
 abbrev pub byCrop : FocusPoint → Size → Crop → CropArea → OptionalSize → Outcome Placement
-byCrop p f NoCrop area picture = at f p
+byCrop p f NoCrop area picture = pointIn f p
 byCrop p f (Stated c) area picture =
-    cond (sameSize (c .cropped) (c .original)) (at f p) (onto (cutOf c) p f area picture)
+    cond (sameSize (c .cropped) (c .original)) (pointIn f p) (onto (cutOf c) p f area picture)
 
 -- "Centre and area must fit."
 unfoldable pub positionOf : FocusPoint → Size → Crop → CropArea → OptionalSize → Outcome Placement

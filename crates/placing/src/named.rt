@@ -19,7 +19,7 @@ ghost use Prim.Native.Nat.{_≤_, _<_};
 ghost use lib.ListN.{take};
 ghost use Rattle.placing.specs.Laid.{focusMeans, laidOut};
 ghost use Rattle.placing.specs.Inside.{pointPlaces, candidateOf};
-ghost use Rattle.placing.specs.Named.{samePlace, pictureIs, onCrop, uncropped, frameMeans, placedFrame, marked, isNamed, fitsWindow, lessOrigin, isListed, listed, indexOf, placedIn, windowOf};
+ghost use Rattle.placing.specs.Named.{samePlace, pictureIs, onCrop, uncropped, frameMeans, placedFrame, marked, isNamed, fitsWindow, lessOrigin, isListed, listedPoints, indexOf, placedIn, windowOf};
 ghost use Rattle.reading.specs.Outcome.{accepted};
 
 // A part of the table's frame: the frame that points are placed in, and where it starts.
@@ -197,7 +197,7 @@ fn placed_point(point: FocusLayoutPoint, window: Window, primary: u32, mask: u64
 
 // The points of the table that the record names and that fit, in table order.
 fn listed_points(window: Window, primary: u32, mask: u64) -> PointPlaces
-    ensures { λ r. ⌜ r ≡ pointPlaces (listed window primary mask) ⌝ }
+    ensures { λ r. ⌜ r ≡ pointPlaces (listedPoints window primary mask) ⌝ }
 {
     let table = crate::points::table();
     let mut points = crate::load::no_places();

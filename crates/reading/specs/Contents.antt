@@ -30,8 +30,8 @@ unfoldable pub keptTags : ByteOrder → List ℕ → List ℕ
 keptTags o s = keptAmong o s fourTags
 
 -- four places with a list of tags at their front, and zeros
-abbrev pub listed : List ℕ → TagList
-listed ts = record { answer = Tags; count = length ts; tags = ts ++ replicate (4 - length ts) 0 }
+abbrev pub tagPlaces : List ℕ → TagList
+tagPlaces ts = record { answer = Tags; count = length ts; tags = ts ++ replicate (4 - length ts) 0 }
 
 -- how often a number stands in a list
 unfoldable pub times : ℕ → List ℕ → ℕ
@@ -52,7 +52,7 @@ ContentsOf (accepted o) s r = Holds (keptTags o s) (r .count) (r .tags)
 -- the one order that this code gives, among those that ContentsOf leaves open: that of the tags' numbers
 unfoldable pub contentsIn : Outcome ByteOrder → List ℕ → TagList
 contentsIn (refused n) s = record { answer = Unreadable; count = 0; tags = replicate 4 0 }
-contentsIn (accepted o) s = listed (keptTags o s)
+contentsIn (accepted o) s = tagPlaces (keptTags o s)
 
 abbrev pub contentsOf : List ℕ → TagList
 contentsOf s = contentsIn (blockOf s) s

@@ -11,7 +11,7 @@ ghost use Rattle.reading.specs.Outcome.{numberOf};
 ghost use Rattle.reading.specs.Block.{blockOf};
 ghost use Rattle.reading.specs.Values.{upToZero, trimStart, trimEnd, isManual, manualFocusOf, numberAt, cropHiSpeedOf, isRectangle, insideRaw, cropAreaOf, afInfo2Of};
 ghost use Rattle.reading.specs.Record.{recordMeans};
-ghost use Rattle.reading.specs.Contents.{contentsNumber, keptTags, listed, contentsOf, ContentsOf};
+ghost use Rattle.reading.specs.Contents.{contentsNumber, keptTags, tagPlaces, contentsOf, ContentsOf};
 
 // FocusMode: text.
 pub const FOCUS_MODE: u16 = 0x0007;
@@ -240,7 +240,7 @@ const TAGS: [u16; 4] = [FOCUS_MODE, CROP_HI_SPEED, CROP_AREA, AF_INFO2];
 
 // The tags that have a kept entry, in the order of TAGS.
 fn kept_tags(block: &[u8], order: ByteOrder) -> TagList
-    ensures { λ r. ⌜ r ≡ listed (keptTags order (now (block .entry))) ⌝ }
+    ensures { λ r. ⌜ r ≡ tagPlaces (keptTags order (now (block .entry))) ⌝ }
 {
     let mut tags = [0u16; 4];
     let mut count: usize = 0;

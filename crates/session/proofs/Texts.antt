@@ -36,8 +36,8 @@ use Rattle.sheet.specs.declared.listing.ListAnswer.the-variants.{Listed}
 use Rattle.sheet.specs.Sheet.{editedMeans, loadedMeans, usable, loadSheet, presentFrame}
 use Rattle.sheet.specs.Answer.{editNumber}
 use Rattle.sheet.specs.Listing.{listMeans, headNumbers}
-use Rattle.sheet.specs.Lists.{listed, listCount, listIndex, isShort, headIn, listOutcome, listBuffer, fitOutcome, fitBuffer}
-use Rattle.sheet.proofs.Listed.{listing-length}
+use Rattle.sheet.specs.Lists.{listing, listCount, listIndex, isShort, headIn, listOutcome, listBuffer, fitOutcome, fitBuffer}
+use Rattle.sheet.proofs.Listed.{listed-length}
 use Rattle.sheet.proofs.Usable.{usable-told}
 use Rattle.journal.specs.Journal.{Answer}
 use Rattle.journal.specs.Calls.{Call, load, list, fit}
@@ -94,11 +94,11 @@ head-is l m n e f = rw (e, f)
 
 -- ---- few points, few tags
 few-listed : (s : Sheet) (f : Size) (m : ℕ) → usable s ≡ true → fewPoints (cond (isShort s m) (refused 13) (accepted (headNumbers (headIn f s))))
-unfolding headNumbers headIn listCount listIndex listed
+unfolding headNumbers headIn listCount listIndex listing
 few-listed s f m h =
     let c = usable-told s h in
     by-cond fewPoints (isShort s m) (λ e. tt)
-    (λ e. (omega (arith, c .points, listing-length s (s .count)), omega (arith, c .points, c .primary, listing-length s (s .primary))))
+    (λ e. (omega (arith, c .points, listed-length s (s .count)), omega (arith, c .points, c .primary, listed-length s (s .primary))))
 
 pub few-list : (s : Sheet) (m : ℕ) (x : ListAnswer) → listMeans x ≡ listOutcome s m → fewPoints (listMeans x)
 unfolding listOutcome

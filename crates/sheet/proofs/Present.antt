@@ -11,11 +11,11 @@ use Rattle.sheet.specs.declared.Sheet.{Sheet}
 use Rattle.sheet.specs.declared.listing.ListHead.{ListHead}
 use Rattle.sheet.specs.declared.list.Present.{Present}
 use Rattle.sheet.specs.Sheet.{presentFrame}
-use Rattle.sheet.specs.Lists.{listed, listCount, listIndex, isShort, headIn}
+use Rattle.sheet.specs.Lists.{listing, listCount, listIndex, isShort, headIn}
 use Rattle.sheet.specs.Inside.{presentOf}
 use Rattle.sheet.proofs.Usable.{Counts}
 use Rattle.placing.proofs.Places.{take-places}
-use Rattle.sheet.proofs.Listed.{listing-length}
+use Rattle.sheet.proofs.Listed.{listed-length}
 
 module _ (s : Sheet) (v : Present) (e : v ≡ presentOf s) where
   pub count-of : v .count ≡ listCount s
@@ -30,13 +30,13 @@ module _ (s : Sheet) (v : Present) (e : v ≡ presentOf s) where
   unfolding presentOf
   frame-of = ap (λ (x : Present). x .frame) e
 
-  pub points-of : take (v .count) (v .points) ≡ listed s
+  pub points-of : take (v .count) (v .points) ≡ listing s
   unfolding presentOf listCount
-  points-of = ap (λ (x : Present). take (x .count) (x .points)) e ∙ take-places (listed s)
+  points-of = ap (λ (x : Present). take (x .count) (x .points)) e ∙ take-places (listing s)
 
   pub count-room : Counts s → v .count ≤ 39
-  unfolding listCount listed
-  count-room c = omega (arith, count-of, listing-length s (s .count))
+  unfolding listCount listing
+  count-room c = omega (arith, count-of, listed-length s (s .count))
 
   pub short : (m : ℕ) → m < 6 * v .count → isShort s m ≡ true
   unfolding isShort

@@ -3,9 +3,9 @@ use Rattle.placing.specs.Laid.{places}
 use Rattle.sheet.specs.declared.Sheet.{Sheet}
 use Rattle.sheet.specs.declared.list.Present.{Present}
 use Rattle.sheet.specs.Sheet.{presentFrame}
-use Rattle.sheet.specs.Lists.{listed, listCount, listIndex}
+use Rattle.sheet.specs.Lists.{listing, listCount, listIndex}
 
 -- what is listed, in 39 places
 unfoldable pub presentOf : Sheet → Present
 presentOf s =
-    record { frame = presentFrame s; points = places (listed s); count = listCount s; index = listIndex s }
+    record { frame = presentFrame s; points = places (listing s); count = listCount s; index = listIndex s }

@@ -20,21 +20,21 @@ abbrev pub ifCarried : Carried → List FocusPoint
 ifCarried q = cond (q .listed) (q .point ∷ []) []
 
 -- of the load's first i points, those that no standing cut dropped, in the load's order and where the edits carry them
-unfoldable pub listing : Sheet → ℕ → List FocusPoint
-listing s zero = []
-listing s (suc i) = listing s i ++ ifCarried (placedAt s i)
+unfoldable pub listedTo : Sheet → ℕ → List FocusPoint
+listedTo s zero = []
+listedTo s (suc i) = listedTo s i ++ ifCarried (placedAt s i)
 
--- all that are listed
-unfoldable pub listed : Sheet → List FocusPoint
-listed s = listing s (s .count)
+-- all points that are listed
+unfoldable pub listing : Sheet → List FocusPoint
+listing s = listedTo s (s .count)
 
 -- "count is their number"
 unfoldable pub listCount : Sheet → ℕ
-listCount s = length (listed s)
+listCount s = length (listing s)
 
 -- "the primary's index its place among them"
 unfoldable pub listIndex : Sheet → ℕ
-listIndex s = length (listing s (s .primary))
+listIndex s = length (listedTo s (s .primary))
 
 -- 13, for a buffer of m places: "buffer shorter than 6 × count"
 unfoldable pub isShort : Sheet → ℕ → Bool
@@ -52,7 +52,7 @@ listOutcome s m =
 
 -- the buffer that list leaves
 unfoldable pub listBuffer : Sheet → List ℕ → List ℕ
-listBuffer s b = cond (usable s) (cond (isShort s (length b)) b (over (flat (listed s)) b)) b
+listBuffer s b = cond (usable s) (cond (isShort s (length b)) b (over (flat (listing s)) b)) b
 
 -- "each point scaled from the present frame to it"
 unfoldable pub scaledAll : Size → Size → List FocusPoint → List FocusPoint
@@ -70,5 +70,5 @@ unfoldable pub fitBuffer : Sheet → Size → List ℕ → List ℕ
 fitBuffer s box b =
     cond (usable s)
     (cond (hasZeroSide box) b
-    (cond (isShort s (length b)) b (over (flat (scaledAll (presentFrame s) box (listed s))) b)))
+    (cond (isShort s (length b)) b (over (flat (scaledAll (presentFrame s) box (listing s))) b)))
     b

@@ -10,7 +10,7 @@ ghost use mathlib.Core.List.{[], _++_};
 ghost use Prim.Native.Nat.{_+_, _<_, _≤_};
 ghost use lib.ListN.{length, take, drop};
 ghost use Rattle.placing.specs.Inside.{pointPlaces};
-ghost use Rattle.sheet.specs.Lists.{listing, scaledAll, listOutcome, listBuffer, fitOutcome, fitBuffer};
+ghost use Rattle.sheet.specs.Lists.{listedTo, scaledAll, listOutcome, listBuffer, fitOutcome, fitBuffer};
 ghost use Rattle.sheet.specs.Listing.{listMeans};
 ghost use Rattle.sheet.specs.Inside.{presentOf};
 
@@ -48,8 +48,8 @@ fn empty_row() -> PointPlaces
 impl Sheet {
     // The listed points among the first `from`, and those up to `to`.
     fn listed_to(self, row: PointPlaces, from: usize, to: usize) -> PointPlaces
-        requires { ⌜ (from ≤ to) × (to ≤ 39) × (self .standing ≤ 64) × (row ≡ pointPlaces (listing self from)) ⌝ }
-        ensures { λ r. ⌜ r ≡ pointPlaces (listing self to) ⌝ }
+        requires { ⌜ (from ≤ to) × (to ≤ 39) × (self .standing ≤ 64) × (row ≡ pointPlaces (listedTo self from)) ⌝ }
+        ensures { λ r. ⌜ r ≡ pointPlaces (listedTo self to) ⌝ }
     {
         let mut points = row.points;
         let mut count = row.count;

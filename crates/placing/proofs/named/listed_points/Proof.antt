@@ -19,7 +19,7 @@ use Rattle.placing.specs.declared.load.PointPlaces.{PointPlaces}
 use Rattle.placing.specs.Load.{noPoint}
 use Rattle.placing.specs.Laid.{places}
 use Rattle.placing.specs.Points.{points as table}
-use Rattle.placing.specs.Named.{lessOrigin, isListed, listedFrom, listed}
+use Rattle.placing.specs.Named.{lessOrigin, isListed, listedFrom, listedPoints}
 use Rattle.placing.specs.Inside.{pointPlaces, candidateOf, noLayoutPoint}
 use Rattle.placing.proofs.Table.{number-at}
 use borrow.Author.Needs.{needs}
@@ -28,7 +28,7 @@ use Rattle.placing.proofs.named.listed_points.Tie as tie
 
 -- the places after i rows
 abbrev Going : Window → ℕ → ℕ → List FocusPoint → ℕ → ℕ → Type 0
-Going w primary mask ps n i = Collected 39 noPoint (listed w primary mask) ps n (listedFrom w primary mask (drop i table))
+Going w primary mask ps n i = Collected 39 noPoint (listedPoints w primary mask) ps n (listedFrom w primary mask (drop i table))
 
 -- a point's part in the list
 abbrev joined : Candidate → List FocusPoint → List FocusPoint
@@ -56,7 +56,7 @@ module _ (w : Window) (primary mask n i : ℕ) (ps : List FocusPoint) (h : i < 3
 
   is-listed : (q : FocusPoint) → n < 39 → r ≡ In q → Going w primary mask (set ps n q) (n + 1) (i + 1)
   is-listed q g e =
-      stored 39 noPoint (listed w primary mask) ps n q (listedFrom w primary mask (drop (i + 1) table)) g (rw (step, e) at k)
+      stored 39 noPoint (listedPoints w primary mask) ps n q (listedFrom w primary mask (drop (i + 1) table)) g (rw (step, e) at k)
 
   is-left : r ≡ Out → Going w primary mask ps n (i + 1)
   is-left e = rw (step, e) at k
@@ -67,10 +67,10 @@ unfolding listedFrom
 no-rows w primary mask = refl
 
 end : (w : Window) (primary mask : ℕ) (ps : List FocusPoint) (n i : ℕ) → i ≡ 39 → Going w primary mask ps n i →
-    _≡_ {A = PointPlaces} (record { points = ps; count = n }) (pointPlaces (listed w primary mask))
+    _≡_ {A = PointPlaces} (record { points = ps; count = n }) (pointPlaces (listedPoints w primary mask))
 unfolding places
 end w primary mask ps n i e k =
-    let f = finished 39 noPoint (listed w primary mask) ps n (rw (e, no-rows w primary mask) at k) in
+    let f = finished 39 noPoint (listedPoints w primary mask) ps n (rw (e, no-rows w primary mask) at k) in
     rw (f .1, ← f .0)
 
 abbrev Inv-loop : tie.InvT-loop

@@ -17,36 +17,36 @@ use Rattle.placing.specs.Load.{noPoint}
 use Rattle.placing.specs.Laid.{places, refusalNumber, loadNumber, focusMeans, laidOut}
 use Rattle.placing.specs.Inside.{pointPlaces}
 use Rattle.placing.specs.Points.{points as table}
-use Rattle.placing.specs.Named.{listed, hasNumber, indexOf, windowFocus, placedIn}
+use Rattle.placing.specs.Named.{listedPoints, hasNumber, indexOf, windowFocus, placedIn}
 use Rattle.placing.proofs.Listed.{present, absent, listed-room}
 use borrow.Author.Needs.{needs}
 use Rattle.placing.proofs.named.placed_in.Statement.{statement}
 use Rattle.placing.proofs.named.placed_in.Tie as tie
 
-module _ (w : Window) (primary mask : ℕ) (mode : FocusAreaMode) (l : PointPlaces) (el : l ≡ pointPlaces (listed w primary mask)) where
-  counted : l .count ≡ length (listed w primary mask)
+module _ (w : Window) (primary mask : ℕ) (mode : FocusAreaMode) (l : PointPlaces) (el : l ≡ pointPlaces (listedPoints w primary mask)) where
+  counted : l .count ≡ length (listedPoints w primary mask)
   counted = ap (λ (x : PointPlaces). x .count) el
 
   count-fits : l .count ≤ 39
   count-fits =
-      let room : length (listed w primary mask) ≤ 39 = listed-room w primary mask table in
+      let room : length (listedPoints w primary mask) ≤ 39 = listed-room w primary mask table in
       omega (arith, counted)
 
   module _ (i : ℕ) (ei : i ≡ indexOf primary (take (l .count) (l .points))) where
-    at-index : i ≡ indexOf primary (listed w primary mask)
+    at-index : i ≡ indexOf primary (listedPoints w primary mask)
     unfolding places
     at-index =
-        let ps = listed w primary mask in
+        let ps = listedPoints w primary mask in
         ei ∙ rw el (ap (indexOf primary) (take-at ps (replicate (39 - length ps) noPoint) (length ps) refl))
 
     none : l .count ≤ i → (r : FocusPoints) → focusMeans r ≡ laidOut (refused (refusalNumber NamesUnplaced)) →
         focusMeans r ≡ laidOut (placedIn (accepted w) primary mask mode)
     unfolding placedIn refusalNumber
-    none h r er = here (hasNumber primary (listed w primary mask)) refl
+    none h r er = here (hasNumber primary (listedPoints w primary mask)) refl
       where
-        here : (b : Bool) → hasNumber primary (listed w primary mask) ≡ b →
+        here : (b : Bool) → hasNumber primary (listedPoints w primary mask) ≡ b →
             focusMeans r ≡ laidOut (cond b (accepted (windowFocus w primary mask mode)) (refused 6))
-        here true e = absurd (omega (arith, present primary (listed w primary mask) e, at-index, counted))
+        here true e = absurd (omega (arith, present primary (listedPoints w primary mask) e, at-index, counted))
         here false e = er
 
     some : i < l .count →
@@ -62,9 +62,9 @@ module _ (w : Window) (primary mask : ℕ) (mode : FocusAreaMode) (l : PointPlac
         })
         ≡ laidOut (placedIn (accepted w) primary mask mode)
     unfolding placedIn laidOut loadNumber
-    some h = here (hasNumber primary (listed w primary mask)) refl
+    some h = here (hasNumber primary (listedPoints w primary mask)) refl
       where
-        here : (b : Bool) → hasNumber primary (listed w primary mask) ≡ b →
+        here : (b : Bool) → hasNumber primary (listedPoints w primary mask) ≡ b →
             focusMeans
             (record {
               answer = Accepted;
@@ -77,7 +77,7 @@ module _ (w : Window) (primary mask : ℕ) (mode : FocusAreaMode) (l : PointPlac
             })
             ≡ laidOut (cond b (accepted (windowFocus w primary mask mode)) (refused 6))
         here true e = rw (at-index, el)
-        here false e = absurd (omega (arith, absent primary (listed w primary mask) e, at-index, counted))
+        here false e = absurd (omega (arith, absent primary (listedPoints w primary mask) e, at-index, counted))
 
 listed-points-requires : tie.Need-listed-points-requires
 listed-points-requires c κs = search needs

@@ -11,7 +11,7 @@ use Rattle.reading.specs.declared.nikon.Crop.the-variants.{NoCrop, Stated}
 use Rattle.reading.specs.declared.nikon.CropArea.{CropArea}
 use Rattle.placing.specs.Fit.{pointFits, sameSize}
 use Rattle.placing.specs.declared.focus.FocusPoint.{FocusPoint}
-use Rattle.placing.specs.Recorded.{Placement, positionOf, cutOf, onto, at}
+use Rattle.placing.specs.Recorded.{Placement, positionOf, cutOf, onto, pointIn}
 use Rattle.placing.specs.declared.recorded.CutSides.{CutSides}
 use borrow.Author.Needs.{needs}
 use Rattle.placing.proofs.recorded.in_crop.Statement.{statement}
@@ -23,12 +23,12 @@ module _ (p : FocusPoint) (f : Size) (c : Crop) (a : CropArea) (t : OptionalSize
   unfit h = rw (← er, not-true r h)
 
   module _ (h : not r ≡ false) where
-    no-crop : c ≡ NoCrop → at f p ≡ positionOf p f c a t
+    no-crop : c ≡ NoCrop → pointIn f p ≡ positionOf p f c a t
     unfolding positionOf
     no-crop e = rw (← er, not-false r h, e)
 
     module _ (k : CropHiSpeed) (e : c ≡ Stated k) (s : Bool) (es : s ≡ sameSize (k .cropped) (k .original)) where
-      uncut : s ≡ true → at f p ≡ positionOf p f c a t
+      uncut : s ≡ true → pointIn f p ≡ positionOf p f c a t
       unfolding positionOf
       uncut g = rw (← er, not-false r h, e, ← es, g)
 

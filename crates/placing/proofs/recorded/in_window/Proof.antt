@@ -6,7 +6,7 @@ use Rattle.reading.specs.Outcome.{refused}
 use Rattle.reading.specs.declared.geometry.Size.{Size}
 use Rattle.placing.specs.Fit.{pointFits}
 use Rattle.placing.specs.declared.focus.FocusPoint.{FocusPoint}
-use Rattle.placing.specs.Recorded.{inWindow, shifts, movedPoint, at}
+use Rattle.placing.specs.Recorded.{inWindow, shifts, movedPoint, pointIn}
 use borrow.Author.Needs.{needs}
 use Rattle.placing.proofs.recorded.in_window.Statement.{statement}
 use Rattle.placing.proofs.recorded.in_window.Tie as tie
@@ -26,7 +26,7 @@ module _ (p : FocusPoint) (f w : Size) (a : Bool) (ea : a ≡ shifts (p .center 
       unfolding inWindow
       unfit n = rw (← ea, not-false a h, ← eb, not-false b k, ← em, ← er, not-true r n)
 
-      fit : not r ≡ false → at w m ≡ inWindow p f w
+      fit : not r ≡ false → pointIn w m ≡ inWindow p f w
       unfolding inWindow
       fit n = rw (← ea, not-false a h, ← eb, not-false b k, ← em, ← er, not-false r n)
 

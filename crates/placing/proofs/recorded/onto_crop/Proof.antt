@@ -6,7 +6,7 @@ use Rattle.reading.specs.declared.geometry.OptionalSize.the-variants.{Missing, 
 use Rattle.reading.specs.declared.nikon.CropArea.{CropArea}
 use Rattle.reading.specs.declared.nikon.CropArea.the-variants.{Absent, Window}
 use Rattle.placing.specs.declared.focus.FocusPoint.{FocusPoint}
-use Rattle.placing.specs.Recorded.{onto, ontoWindow, ontoPicture, at}
+use Rattle.placing.specs.Recorded.{onto, ontoWindow, ontoPicture, pointIn}
 use Rattle.placing.specs.declared.recorded.CutSides.{CutSides}
 use borrow.Author.Needs.{needs}
 use Rattle.placing.proofs.recorded.onto_crop.Statement.{statement}
@@ -19,7 +19,7 @@ module _ (c : CutSides) (p : FocusPoint) (f : Size) (a : CropArea) (t : Optional
   on-picture : (s : Size) → a ≡ Absent → t ≡ Given s → ontoPicture c p f s ≡ onto c p f a t
   on-picture s e g = rw (e, g)
 
-  as-recorded : a ≡ Absent → t ≡ Missing → at f p ≡ onto c p f a t
+  as-recorded : a ≡ Absent → t ≡ Missing → pointIn f p ≡ onto c p f a t
   as-recorded e g = rw (e, g)
 
 enum-known-area : tie.Need-enum-known-area

@@ -6,7 +6,7 @@ use Rattle.reading.specs.declared.geometry.Size.{Size}
 use Rattle.placing.specs.Fit.{hasZeroSide}
 use Rattle.placing.specs.Scale.{scaledPoint}
 use Rattle.placing.specs.declared.focus.FocusPoint.{FocusPoint}
-use Rattle.placing.specs.Recorded.{scaledTo, at}
+use Rattle.placing.specs.Recorded.{scaledTo, pointIn}
 use borrow.Author.Needs.{needs}
 use Rattle.placing.proofs.recorded.scaled_to.Statement.{statement}
 use Rattle.placing.proofs.recorded.scaled_to.Tie as tie
@@ -16,7 +16,7 @@ module _ (p : FocusPoint) (f t : Size) (z : Bool) (ez : z ≡ hasZeroSide t) whe
   unfolding scaledTo
   zero-side e = rw (← ez, e)
 
-  scaled : z ≡ false → (q : FocusPoint) → q ≡ scaledPoint p f t → at t q ≡ scaledTo p f t
+  scaled : z ≡ false → (q : FocusPoint) → q ≡ scaledPoint p f t → pointIn t q ≡ scaledTo p f t
   unfolding scaledTo
   scaled e q eq = rw (← ez, e, ← eq)
 

@@ -7,7 +7,7 @@ use lib.Seq.{take-append-seam, drop-append-seam}
 use denote.Ref.{now}
 use Rattle.reading.specs.Outcome.{Outcome, refused, accepted, numberOf}
 use Rattle.reading.specs.Block.{blockOf}
-use Rattle.reading.specs.Contents.{contentsNumber, Holds, ContentsOf, contentsIn, keptTags, listed, times}
+use Rattle.reading.specs.Contents.{contentsNumber, Holds, ContentsOf, contentsIn, keptTags, tagPlaces, times}
 use Rattle.numbers.specs.declared.io.ByteOrder.{ByteOrder}
 use Rattle.reading.specs.declared.nikon.TagList.{TagList}
 use borrow.Author.Needs.{needs}
@@ -22,7 +22,7 @@ holds ts =
       zeros = drop-append-seam ts (replicate (4 - length ts) 0);
     }
 
-read : (s : List ℕ) (o : ByteOrder) (b : Outcome ByteOrder) (r : TagList) → accepted o ≡ b → r ≡ listed (keptTags o s) →
+read : (s : List ℕ) (o : ByteOrder) (b : Outcome ByteOrder) (r : TagList) → accepted o ≡ b → r ≡ tagPlaces (keptTags o s) →
     (contentsNumber (r .answer) ≡ numberOf b) × ContentsOf b s r × (r ≡ contentsIn b s)
 unfolding ContentsOf contentsIn
 read s o b r e er = rw (← e, er) (refl, holds (keptTags o s), refl)

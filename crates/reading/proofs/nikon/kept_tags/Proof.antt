@@ -10,7 +10,7 @@ use lib.ListN.{getD, drop, set}
 use lib.Seq.{drop-cons}
 use denote.Ref.{now}
 use Rattle.reading.specs.Block.{findOf, isKept}
-use Rattle.reading.specs.Contents.{fourTags, keptAmong, keptTags, listed}
+use Rattle.reading.specs.Contents.{fourTags, keptAmong, keptTags, tagPlaces}
 use Rattle.laws.proofs.Collect.{Collected, stored, finished}
 use Rattle.numbers.specs.declared.io.ByteOrder.{ByteOrder}
 use Rattle.reading.specs.declared.nikon.TagList.{TagList}
@@ -37,7 +37,7 @@ module _ (o : ByteOrder) (s places : List ℕ) (n i : ℕ) (h : i < 4) (k : Goin
   not-there e = rw (add-one i) (rw (drop-cons fourTags i 0 h, ← et, ← eb, e) at k)
 
 end : (o : ByteOrder) (s places : List ℕ) (n i : ℕ) → i ≡ 4 → Going o s places n i →
-    _≡_ {A = TagList} (record { answer = Tags; count = n; tags = places }) (listed (keptTags o s))
+    _≡_ {A = TagList} (record { answer = Tags; count = n; tags = places }) (tagPlaces (keptTags o s))
 unfolding keptAmong
 end o s places n i e k =
     let f = finished 4 0 (keptTags o s) places n (rw e at k) in

@@ -15,7 +15,7 @@ use Rattle.sheet.specs.declared.listing.ListAnswer.the-variants.{Empty, 
 use Rattle.sheet.specs.declared.list.Present.{Present}
 use Rattle.sheet.specs.Sheet.{usable, presentFrame}
 use Rattle.sheet.specs.Listing.{listMeans, flat, over, hasRoom, withPoints}
-use Rattle.sheet.specs.Lists.{listed, listCount, scaledAll, fitOutcome, fitBuffer}
+use Rattle.sheet.specs.Lists.{listing, listCount, scaledAll, fitOutcome, fitBuffer}
 use Rattle.sheet.specs.Inside.{presentOf}
 use Rattle.sheet.proofs.Usable.{counts}
 use Rattle.sheet.proofs.Present.{count-of, count-room, frame-of, points-of, short, long, head-of}
@@ -31,14 +31,14 @@ scaled-length old new ps = length-map ps _
 -- the first points of those that `scaled_points` gives
 scaled-listed : (s : Sheet) (box : Size) (v : Present) → v ≡ presentOf s → (qs : List FocusPoint)
     → qs ≡ scaledAll (v .frame) box (take (v .count) (v .points)) ++ drop (v .count) (v .points)
-    → take (v .count) qs ≡ scaledAll (presentFrame s) box (listed s)
+    → take (v .count) qs ≡ scaledAll (presentFrame s) box (listing s)
 unfolding listCount
 scaled-listed s box v ev qs g =
     ap (take (v .count)) g
     ∙ take-at (scaledAll (v .frame) box (take (v .count) (v .points))) (drop (v .count) (v .points)) (v .count)
     (scaled-length (v .frame) box (take (v .count) (v .points)) ∙ ap length (points-of s v ev) ∙ sym (count-of s v ev))
     ∙ ap (scaledAll (v .frame) box) (points-of s v ev)
-    ∙ ap (λ (f : Size). scaledAll f box (listed s)) (frame-of s v ev)
+    ∙ ap (λ (f : Size). scaledAll f box (listing s)) (frame-of s v ev)
 
 module _ (s : Sheet) (box : Size) (r : Bool) (e : r ≡ usable s) (b : List ℕ) where
   empty : not r ≡ true → (listMeans Empty ≡ fitOutcome s box (length b)) × (b ≡ fitBuffer s box b)

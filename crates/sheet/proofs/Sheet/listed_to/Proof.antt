@@ -8,13 +8,13 @@ use Rattle.placing.specs.Laid.{places}
 use Rattle.sheet.proofs.Most.{all-held}
 use Rattle.placing.specs.declared.load.PointPlaces.{PointPlaces}
 use Rattle.sheet.specs.Sheet.{placedAt}
-use Rattle.sheet.specs.Lists.{listing}
+use Rattle.sheet.specs.Lists.{listedTo}
 use Rattle.sheet.proofs.Listed.{has-room, one-in, none-in, row-done}
 use Rattle.sheet.proofs.Sheet.listed_to.Statement.{statement}
 use Rattle.sheet.proofs.Sheet.listed_to.Tie as tie
 
 abbrev Inv-loop : tie.InvT-loop
-Inv-loop from to self points₀ count₀ frame words standing i₀ points count i = (i ≤ to) × (count ≡ length (listing self i)) × (points ≡ places (listing self i))
+Inv-loop from to self points₀ count₀ frame words standing i₀ points count i = (i ≤ to) × (count ≡ length (listedTo self i)) × (points ≡ places (listedTo self i))
 
 abbrev μ-loop : tie.MeasureT-loop
 μ-loop from to self points₀ count₀ frame words standing i₀ points count i = to - i

@@ -7,23 +7,23 @@ use Rattle.placing.specs.declared.load.PointPlaces.{PointPlaces}
 use Rattle.sheet.specs.declared.list.Present.{Present}
 use Rattle.sheet.specs.Sheet.{placedAt, presentFrame}
 use Rattle.placing.specs.Inside.{pointPlaces}
-use Rattle.sheet.specs.Lists.{listing, listed, listCount, listIndex}
+use Rattle.sheet.specs.Lists.{listedTo, listing, listCount, listIndex}
 use Rattle.sheet.specs.Inside.{presentOf}
 use borrow.Author.Needs.{needs}
 use Rattle.sheet.proofs.Sheet.present.Statement.{statement}
 use Rattle.sheet.proofs.Sheet.present.Tie as tie
 
-is-present : (s : Sheet) (b a : PointPlaces) (q : Carried) → b ≡ pointPlaces (listing s (s .primary)) → a ≡ pointPlaces (listing s (s .count))
+is-present : (s : Sheet) (b a : PointPlaces) (q : Carried) → b ≡ pointPlaces (listedTo s (s .primary)) → a ≡ pointPlaces (listedTo s (s .count))
     → q ≡ placedAt s (s .primary)
     → _≡_ {A = Present} (record { frame = q .frame; points = a .points; count = a .count; index = b .count }) (presentOf s)
-unfolding presentOf presentFrame listed listCount listIndex
+unfolding presentOf presentFrame listing listCount listIndex
 is-present s b a q eb ea eq = rw (eb, ea, eq)
 
 empty-row-requires : tie.Need-empty-row-requires
 empty-row-requires c κs = search needs
 
 listed-to-requires : tie.Need-listed-to-requires
-unfolding listing
+unfolding listedTo
 listed-to-requires c κs = (omega arith, omega (arith, c .before .pre), c .before .pre .2, c .empty-row .ensures)
 
 listed-to-requires-2 : tie.Need-listed-to-requires-2
