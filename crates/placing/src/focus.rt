@@ -1,6 +1,7 @@
 // When a point lies on a frame, and a point measured in another frame.
 ghost use mathlib.Core.Path.{_≡_};
 ghost use Prim.Native.Nat.{min, max};
+ghost use Rattle.reading.specs.Focus.{inFocusNumber};
 ghost use Rattle.placing.specs.Fit.{halfUp, axisFits, sameSize, hasZeroSide, centerLiesOn, areaFits, noArea, liesOn, pointFits};
 ghost use Rattle.placing.specs.Scale.{scaleOf, trimOf, scaledSide, scaledCenter, scaledSize, scaledPoint};
 use reading::focus::InFocus;
@@ -13,6 +14,14 @@ pub struct FocusPoint {
     pub center: Point,
     pub size: Size,
     pub in_focus: InFocus,
+}
+
+// 01's number for what a point says of its focus.
+pub fn in_focus_number(point: FocusPoint) -> u32
+    ensures { λ r. ⌜ r ≡ inFocusNumber (point .«in_focus») ⌝ }
+{
+    let in_focus = point.in_focus;
+    reading::focus::in_focus_number(in_focus)
 }
 
 // Half a side, rounded up.

@@ -46,13 +46,12 @@ fn put_point(out: &mut [u32], at: usize, point: FocusPoint)
 {
     let center = point.center;
     let size = point.size;
-    let in_focus = point.in_focus;
     out[at] = point.number;
     out[at + 1] = center.x;
     out[at + 2] = center.y;
     out[at + 3] = size.width;
     out[at + 4] = size.height;
-    out[at + 5] = reading::focus::in_focus_number(in_focus);
+    out[at + 5] = placing::focus::in_focus_number(point);
 }
 
 // Writes the first n points at the buffer's front, six numbers each. Where there are not so many, or no room for them, nothing is

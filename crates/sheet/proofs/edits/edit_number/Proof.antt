@@ -1,5 +1,4 @@
 -- `edit_number`: case by case. Assumes nothing.
-use Rattle.sheet.specs.Answer.{editNumber}
 use borrow.Author.Needs.{needs}
 use Rattle.sheet.proofs.edits.edit_number.Statement.{statement}
 use Rattle.sheet.proofs.edits.edit_number.Tie as tie
@@ -23,27 +22,21 @@ enum-told-6 : tie.Need-enum-told-6
 enum-told-6 c = search needs
 
 returns : tie.Need-returns
-unfolding editNumber
 returns c = rw (c .enum-told .given .1)
 
 returns-2 : tie.Need-returns-2
-unfolding editNumber
 returns-2 c = rw (c .enum-told2 .given .1)
 
 returns-3 : tie.Need-returns-3
-unfolding editNumber
 returns-3 c = rw (c .enum-told3 .given .1)
 
 returns-4 : tie.Need-returns-4
-unfolding editNumber
 returns-4 c = rw (c .enum-told4 .given .1)
 
 returns-5 : tie.Need-returns-5
-unfolding editNumber
 returns-5 c = rw (c .enum-told5 .given .1)
 
 returns-6 : tie.Need-returns-6
-unfolding editNumber
 returns-6 c = rw (c .enum-told6 .given .1)
 
 pub edit-number-spec : {M : Type 1} → statement M
