@@ -231,7 +231,10 @@ def files():
             yield os.path.join("crates", "focusdesk", "stdout"), printed
     text = stored.read("README.md")
     yield "README.md", readme(text, shown)
-    print("README.md shows: %s" % ", ".join(match[2] for match in SHOWN.finditer(text.decode())))
+    there = [match[2] for match in SHOWN.finditer(text.decode())]
+    if sorted(there) != sorted(shown):
+        sys.exit("README.md is to show each of %s once, and shows %s" % (", ".join(shown), ", ".join(there)))
+    print("README.md shows: %s" % ", ".join(there))
 
 
 if __name__ == "__main__":

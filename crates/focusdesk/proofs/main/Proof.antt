@@ -1,4 +1,5 @@
--- `main`: read by read, the sheet and the held line are those after all that came (`Taken`), and the reads run out. Assumes nothing.
+-- `main`: read by read, the sheet and the held line are those that some bytes leave, from the fresh sheet on (`Taken`), and the reads run
+-- out. Assumes nothing.
 use Rattle.focusdesk.proofs.Laws as laws
 use native.Mathlib.Omega.{arith}
 use borrow.Author.Needs.{needs}
