@@ -33,8 +33,8 @@ abbrev pub originWord : List ℕ
 originWord = 32 ∷ 111 ∷ 114 ∷ 105 ∷ 103 ∷ 105 ∷ 110 ∷ 32 ∷ []
 
 -- a space and a number
-abbrev pub next : ℕ → List ℕ
-next n = pair space n
+abbrev pub spaced : ℕ → List ℕ
+spaced n = pair space n
 
 -- "It prints `ok`"
 abbrev pub okText : List ℕ
@@ -45,19 +45,19 @@ unfoldable pub noText : ℕ → List ℕ
 noText n = pair noWord n ++ lineFeed
 
 -- the first n numbers of a list, each after a space
-unfoldable pub nextAll : List ℕ → ℕ → List ℕ
-nextAll ws zero = []
-nextAll ws (suc n) = nextAll ws n ++ next (getD ws n 0)
+unfoldable pub spacedAll : List ℕ → ℕ → List ℕ
+spacedAll ws zero = []
+spacedAll ws (suc n) = spacedAll ws n ++ spaced (getD ws n 0)
 
 -- "`tags` with count and tags in decimal (unused places not printed)"
 unfoldable pub tagsText : ℕ → List ℕ → List ℕ
-tagsText count tags = pair tagsWord count ++ nextAll tags count ++ lineFeed
+tagsText count tags = pair tagsWord count ++ spacedAll tags count ++ lineFeed
 
 -- "for list and fit a head line": `frame W H points N primary P mode M origin O`, of the six numbers that a listing gives
 unfoldable pub headText : List ℕ → List ℕ
 headText given =
     pair frameWord (getD given 0 0)
-    ++ next (getD given 1 0)
+    ++ spaced (getD given 1 0)
     ++ pair pointsWord (getD given 2 0)
     ++ pair primaryWord (getD given 3 0)
     ++ pair modeWord (getD given 4 0)
@@ -68,11 +68,11 @@ headText given =
 unfoldable pub pointText : List ℕ → ℕ → List ℕ
 pointText ws i =
     digitsOf (getD ws (i * 6) 0)
-    ++ next (getD ws (i * 6 + 1) 0)
-    ++ next (getD ws (i * 6 + 2) 0)
-    ++ next (getD ws (i * 6 + 3) 0)
-    ++ next (getD ws (i * 6 + 4) 0)
-    ++ next (getD ws (i * 6 + 5) 0)
+    ++ spaced (getD ws (i * 6 + 1) 0)
+    ++ spaced (getD ws (i * 6 + 2) 0)
+    ++ spaced (getD ws (i * 6 + 3) 0)
+    ++ spaced (getD ws (i * 6 + 4) 0)
+    ++ spaced (getD ws (i * 6 + 5) 0)
     ++ lineFeed
 
 -- the lines of the first n points

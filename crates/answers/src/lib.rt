@@ -4,7 +4,7 @@ ghost use Prim.Native.Nat.{_<_, _≤_, min};
 ghost use mathlib.Core.Path.{_≡_};
 ghost use lib.ListN.{getD};
 ghost use Rattle.text.specs.Put.{Put, Puts};
-ghost use Rattle.answers.specs.Answers.{okText, noText, nextAll, tagsText, headText, pointText, pointsText};
+ghost use Rattle.answers.specs.Answers.{okText, noText, spacedAll, tagsText, headText, pointText, pointsText};
 
 // The line of a call that was accepted.
 pub fn put_ok(out: &mut [u8], at: usize) -> usize
@@ -71,7 +71,7 @@ pub fn put_points(out: &mut [u8], at: usize, words: &[u32], count: usize) -> usi
 }
 
 // The tag at an index, and 0 past the end.
-fn tag_at(tags: &[u16], i: usize) -> u16
+fn nth_tag(tags: &[u16], i: usize) -> u16
     ensures { λ r. ⌜ r ≡ getD (now (tags .entry)) i 0 ⌝ }
 {
     if i < tags.len() { tags[i] } else { 0 }
@@ -80,12 +80,12 @@ fn tag_at(tags: &[u16], i: usize) -> u16
 // The first tags, each after a space.
 fn put_each(out: &mut [u8], at: usize, tags: &[u16], n: usize) -> usize
     requires { ⌜ n ≤ 4 ⌝ }
-    ensures { λ r. ⌜ Puts (now (out .entry)) at (nextAll (now (tags .entry)) n) 44 (now (out .exit)) r ⌝ }
+    ensures { λ r. ⌜ Puts (now (out .entry)) at (spacedAll (now (tags .entry)) n) 44 (now (out .exit)) r ⌝ }
 {
     let mut after = at;
     let mut i: usize = 0;
     while i < n {
-        after = text::put_pair(out, after, b" ", tag_at(tags, i) as u32);
+        after = text::put_pair(out, after, b" ", nth_tag(tags, i) as u32);
         i += 1;
     }
     after

@@ -124,7 +124,7 @@ unfolding optional
 given-is true s = refl
 given-is false s = refl
 
-flags-are : (f : ℕ) → f ≤ 3 → cond (eqb (f % 2) 1) 1 0 + cond (leb 2 f) 2 0 ≡ f
+flags-are : (f : ℕ) → f ≤ 3 → cond (eqb (f % 2) 1) 1 0 + cond (eqb (f / 2 % 2) 1) 2 0 ≡ f
 flags-are zero h = refl
 flags-are (suc zero) h = refl
 flags-are (suc (suc zero)) h = refl
@@ -144,7 +144,7 @@ module _ (b : List ℕ) (h : AreBytes b) (right : checks b ≡ true) where
       if-so b (eqb (length b) 2)
       (λ t.
       let l = eqb-true (length b) 2 t in
-      record { can-be = can; so = rw e (whole b h (omega arith) right (k ∷ []) (rw l (one-at b 0 k (omega arith) c))) })
+      record { encodable = can; its-bytes = rw e (whole b h (omega arith) right (k ∷ []) (rw l (one-at b 0 k (omega arith) c))) })
 
   -- a cut
   cut-body : (k : ℕ) → k ≡ getD b 0 0 → length b ≡ 18
@@ -164,14 +164,14 @@ module _ (b : List ℕ) (h : AreBytes b) (right : checks b ≡ true) where
       (λ e.
       let l = eqb-true (length b) 18 e in
       record {
-        can-be = (
+        encodable = (
           number-of (drop 1 b) (bytes-from b h 1),
           number-of (drop 5 b) (bytes-from b h 5),
           number-of (drop 9 b) (bytes-from b h 9),
           number-of (drop 13 b) (bytes-from b h 13),
           (refl, refl),
         );
-        so = whole b h (omega arith) right _ (rw l (cut-body 2 c l));
+        its-bytes = whole b h (omega arith) right _ (rw l (cut-body 2 c l));
       })
 
   -- a fit
@@ -184,7 +184,7 @@ module _ (b : List ℕ) (h : AreBytes b) (right : checks b ≡ true) where
       if-so b (eqb (length b) 10)
       (λ e.
       let l = eqb-true (length b) 10 e in
-      record { can-be = (size-numbers b h 1, (refl, refl)); so = whole b h (omega arith) right _ (rw l (fit-body 7 c l)) })
+      record { encodable = (size-numbers b h 1, (refl, refl)); its-bytes = whole b h (omega arith) right _ (rw l (fit-body 7 c l)) })
 
   -- contents
   contents-body : (k : ℕ) → k ≡ getD b 0 0 → 2 ≤ length b → k ∷ [] ++ contentsPart b ≡ take (length b - 1) b
@@ -199,7 +199,7 @@ module _ (b : List ℕ) (h : AreBytes b) (right : checks b ≡ true) where
       if-so b (leb 2 (length b))
       (λ e.
       let l = leb-true 2 (length b) e in
-      record { can-be = refl; so = whole b h (omega arith) right _ (contents-body 8 c l) })
+      record { encodable = refl; its-bytes = whole b h (omega arith) right _ (contents-body 8 c l) })
 
   -- a load
   module _ (c : 1 ≡ getD b 0 0) (long : 20 + modelLength b ≤ length b) where
@@ -235,8 +235,8 @@ module _ (b : List ℕ) (h : AreBytes b) (right : checks b ≡ true) where
         let ef : flagByte (optional (hasRaw b) (sidesAt b 2)) (optional (hasPicture b) (sidesAt b 10)) ≡ flags b =
         rw (given-is (hasRaw b) (sidesAt b 2), given-is (hasPicture b) (sidesAt b 10)) (flags-are (flags b) few) in
         record {
-          can-be = (rw es (size-numbers b h 2), rw et (size-numbers b h 10), rw model-long (h 18));
-          so = whole b h (omega arith) right _ (load-body _ (load-front _ _ _ _ ef es et model-long));
+          encodable = (rw es (size-numbers b h 2), rw et (size-numbers b h 10), rw model-long (h 18));
+          its-bytes = whole b h (omega arith) right _ (load-body _ (load-front _ _ _ _ ef es et model-long));
         }
 
   load : 1 ≡ getD b 0 0 → EncodedOrMalformed b (loadCall b)

@@ -98,9 +98,9 @@ module _ (k : List ℕ) where
       by-its-code (8 ∷ k) (accepted lineContents)
       (sym (laws.contents-yes (checked (8 ∷ k)) (omega (arith, length-append k (checkOf (8 ∷ k) ∷ [])))))
 
-  contents-block : (c : ℕ) → contentsPart (8 ∷ k ++ c ∷ []) ≡ k
+  contents-part : (c : ℕ) → contentsPart (8 ∷ k ++ c ∷ []) ≡ k
   unfolding contentsPart
-  contents-block c =
+  contents-part c =
       let e : length (8 ∷ k ++ c ∷ []) - 2 ≡ length k = omega (arith, length-append k (c ∷ [])) in
       rw e (take-append-seam k (c ∷ []))
 
@@ -128,7 +128,7 @@ flag-raw Missing (Given t) = refl
 flag-raw (Given s) Missing = refl
 flag-raw (Given s) (Given t) = refl
 
-flag-picture : (o p : OptionalSize) → leb 2 (flagByte o p) ≡ isGiven p
+flag-picture : (o p : OptionalSize) → eqb (flagByte o p / 2 % 2) 1 ≡ isGiven p
 flag-picture Missing Missing = refl
 flag-picture Missing (Given t) = refl
 flag-picture (Given s) Missing = refl
@@ -234,7 +234,7 @@ encoded-is-read lineContents m k h =
     record {
       the-call = contents-back k;
       the-model = sym h;
-      the-block = contents-block k (checkOf (8 ∷ k));
+      the-block = contents-part k (checkOf (8 ∷ k));
     }
 
 -- ---- bytes

@@ -1,6 +1,6 @@
 -- Laws of the format: one for each way out of a function of the code, over plain values and what is known of each. The idea: the
 -- tests passed so far and the answers got so far rewrite a definition to what is returned. Assumes nothing.
-use Prim.Native.Nat.{ℕ, _+_, _-_, _%_, _<_, _≤_}
+use Prim.Native.Nat.{ℕ, _+_, _-_, _/_, _%_, _<_, _≤_}
 use mathlib.Core.Path.{_≡_, ap, _∙_}
 use mathlib.Core.Bool.{Bool, true, false, not}
 use mathlib.Core.List.{List}
@@ -63,7 +63,7 @@ module _ (b : List ℕ) (f m : ℕ) (ef : f ≡ getD b 1 0) (em : m ≡ getD b 1
       unfolding wellFormedLoad
       load-raw n = rw (← em, le-leb (20 + m) (length b) h, ← ef, le-leb f 3 k, ← es, ← er, not-true r n)
 
-      pub load-picture : not r ≡ false → (t : Size) → t ≡ sidesAt b 10 → (q : Bool) → q ≡ sidesAgree (leb 2 f) t → q ≡ wellFormedLoad b
+      pub load-picture : not r ≡ false → (t : Size) → t ≡ sidesAt b 10 → (q : Bool) → q ≡ sidesAgree (eqb (f / 2 % 2) 1) t → q ≡ wellFormedLoad b
       unfolding wellFormedLoad
       load-picture n t et q eq =
           rw (← em, le-leb (20 + m) (length b) h, ← ef, le-leb f 3 k, ← es, ← er, not-false r n, ← et, ← eq)
@@ -74,7 +74,7 @@ module _ (b : List ℕ) (r : Bool) (er : r ≡ wellFormedLoad b) where
   load-no n = rw (← er, not-true r n)
 
   pub load-yes : not r ≡ false → (f : ℕ) → f ≡ getD b 1 0 → (s t : Size) → s ≡ sidesAt b 2 → t ≡ sidesAt b 10
-      → (o p : OptionalSize) → o ≡ optional (eqb (f % 2) 1) s → p ≡ optional (leb 2 f) t → accepted (lineLoad o p) ≡ loadCall b
+      → (o p : OptionalSize) → o ≡ optional (eqb (f % 2) 1) s → p ≡ optional (eqb (f / 2 % 2) 1) t → accepted (lineLoad o p) ≡ loadCall b
   unfolding loadCall
   load-yes n f ef s t es et o p eo ep = rw (← er, not-false r n, ← ef, ← es, ← et, ← eo, ← ep)
 

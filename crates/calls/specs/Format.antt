@@ -1,6 +1,6 @@
 -- 01, "After the sheet": the call that the bytes of a line spell. The first byte is the code, the last one the check. "Numbers
 -- big-endian."
-use Prim.Native.Nat.{ℕ, _+_, _-_, _%_}
+use Prim.Native.Nat.{ℕ, _+_, _-_, _/_, _%_}
 use mathlib.Core.Bool.{Bool, _&&_, _||_, cond}
 use mathlib.Core.List.{List, []}
 use lib.Dec.{leb, eqb}
@@ -59,7 +59,7 @@ abbrev pub hasRaw : List ℕ → Bool
 hasRaw b = eqb (flags b % 2) 1
 
 abbrev pub hasPicture : List ℕ → Bool
-hasPicture b = leb 2 (flags b)
+hasPicture b = eqb (flags b / 2 % 2) 1
 
 abbrev pub modelLength : List ℕ → ℕ
 modelLength b = getD b 18 0

@@ -99,8 +99,8 @@ EncodedIsBytes =
 -- ---- and what is read was encoded so
 -- a call is encoded in b, with the model and the block that are read of b
 pub record Encodes (b : List ℕ) (call : LineCall) : Type 0 where
-  pub can-be : Encodable call (modelGiven call b) (blockGiven call b)
-  pub so : encoded call (modelGiven call b) (blockGiven call b) ≡ b
+  pub encodable : Encodable call (modelGiven call b) (blockGiven call b)
+  pub its-bytes : encoded call (modelGiven call b) (blockGiven call b) ≡ b
 
 -- so is every call that is read; what is not read is malformed
 pub data EncodedOrMalformed (b : List ℕ) : Outcome LineCall → Type 0 where

@@ -11,7 +11,7 @@ ghost use mathlib.Core.Path.{_≡_};
 ghost use Prim.Native.Nat.{_-_, _<_};
 ghost use Rattle.calls.specs.Format.{callMeans, u32At, sidesAt, sidesAgree, optional, modelLength, wellFormedLoad, loadCall, ofLength, cutCall, fitCall, contentsCall, byCode, callOf, modelPart, blockPart, contentsPart};
 
-// How a line's bytes read; what a load or contents is given besides stands in the bytes, see model_of, block_of, contents_block.
+// How a line's bytes read; what a load or contents is given besides stands in the bytes, see model_part, block_part, contents_part.
 pub enum Call {
     Malformed,
     Load {
@@ -96,7 +96,7 @@ fn is_well_formed_load(b: &[u8]) -> bool
     if !sides_agree(flags % 2 == 1, sides_at(b, 2)) {
         return false;
     }
-    sides_agree(2 <= flags, sides_at(b, 10))
+    sides_agree(flags / 2 % 2 == 1, sides_at(b, 10))
 }
 
 // A load, where the bytes spell one.
@@ -108,7 +108,7 @@ fn load_call(b: &[u8]) -> Call
     }
     let flags = u8_at(b, 1);
     let raw = optional_size(flags % 2 == 1, sides_at(b, 2));
-    let picture = optional_size(2 <= flags, sides_at(b, 10));
+    let picture = optional_size(flags / 2 % 2 == 1, sides_at(b, 10));
     Call::Load { raw, picture }
 }
 
@@ -188,14 +188,14 @@ pub fn call_of(b: &[u8]) -> Call
 }
 
 // A load's model.
-pub fn model_of(b: &[u8]) -> &[u8]
+pub fn model_part(b: &[u8]) -> &[u8]
     ensures { λ r. ⌜ now r ≡ modelPart (now (b .entry)) ⌝ }
 {
     head(tail(b, 19), model_length(b))
 }
 
 // A load's block: what is left before the check.
-pub fn block_of(b: &[u8]) -> &[u8]
+pub fn block_part(b: &[u8]) -> &[u8]
     ensures { λ r. ⌜ now r ≡ blockPart (now (b .entry)) ⌝ }
 {
     let model = model_length(b);
@@ -203,7 +203,7 @@ pub fn block_of(b: &[u8]) -> &[u8]
 }
 
 // The block that contents is given: what lies between the code and the check.
-pub fn contents_block(b: &[u8]) -> &[u8]
+pub fn contents_part(b: &[u8]) -> &[u8]
     ensures { λ r. ⌜ now r ≡ contentsPart (now (b .entry)) ⌝ }
 {
     head(tail(b, 1), less(b.len(), 2))

@@ -93,13 +93,13 @@ module _ {s : Sheet} {l₀ h l : List ℕ} {r : Once} (input : List ℕ) (i : �
         used-part = p .used-part;
         used-some = λ z. omega (arith, z, f);
         used-all = λ z. omega (arith, f, p .used-part);
-        goes-on = refl;
+        more-if-sent = refl;
       }
 
   -- a write has failed, after some of it
   pub serves-some : 0 < i → Serves s l₀ h input l (record { sheet = r .sheet; held = r .held; sent = false; more = false })
   serves-some f =
-      record { used = i; taken = p .taken; used-part = p .used-part; used-some = λ z. f; used-all = λ z. false-true z; goes-on = refl }
+      record { used = i; taken = p .taken; used-part = p .used-part; used-some = λ z. f; used-all = λ z. false-true z; more-if-sent = refl }
 
 -- ---- a read, which answered `got`. The program tests its bits, `ofZ w64 got`
 failed-read : (got : ℤ) (b : Bool) → ltZ got (pos 0) ≡ true → Interrupts got b

@@ -27,7 +27,7 @@ pub record Serves (s : Sheet) (line₀ h input line : List ℕ) (r : After) : Ty
   pub used-part : used ≤ length input
   pub used-some : 0 < length input → 0 < used
   pub used-all : r .more ≡ true → used ≡ length input
-  pub goes-on : r .more ≡ r .sent
+  pub more-if-sent : r .more ≡ r .sent
 
 -- the bytes that a read put at the start of a buffer: it answered how many, or a negative number where it failed
 unfoldable pub came : ℤ → List ℕ → List ℕ

@@ -18,7 +18,7 @@ use Rattle.placing.proofs.Sound.{focus-sound}
 use Rattle.placing.proofs.Numbers.{Numbered, number, numbered-load}
 use Rattle.focuspoints.specs.Buffer.{roomNumber, withNumbers}
 use Rattle.focuspoints.specs.Photograph.{listingLength, photographNumber, photographBuffer}
-use Rattle.focuspoints.specs.Laws.{ListsTheLoad, FewNumbers, RoomEnough, PhotographKeeps}
+use Rattle.focuspoints.specs.Laws.{ListsTheLoad, NumbersReturned, RoomEnough, PhotographKeeps}
 use Rattle.focuspoints.proofs.Listing.{whole-listing, whole-length}
 
 pub lists-the-load : ListsTheLoad
@@ -33,8 +33,8 @@ few (accepted f) k room =
     (λ (h : ltb room (listingLength f) ≡ false). inl (rw h (omega arith)))
     (by-bool (ltb room (listingLength f)))
 
-pub few-numbers : FewNumbers
-few-numbers block raw picture model room = few (focusOf block raw picture model) (numbered-load block raw picture model) room
+pub numbers-returned : NumbersReturned
+numbers-returned block raw picture model room = few (focusOf block raw picture model) (numbered-load block raw picture model) room
 
 most : (f : Focus) → SoundFocus f → listingLength f ≤ 240
 most f d = omega (arith, d .room, whole-length f)

@@ -24,7 +24,6 @@ use Rattle.placing.proofs.Sound.{focus-sound}
 use Rattle.sheet.specs.Listing.{headNumbers}
 use Rattle.placing.proofs.Places.{take-places}
 use Rattle.journal.specs.Journal.{frameAfter, listed, numbers, carried}
-use Rattle.placing.proofs.Numbers.{numbered-load}
 use Rattle.placing.proofs.Means.{IsLaid, when-refused, when-accepted}
 use Rattle.journal.proofs.Placed.{flat-numbers}
 use Rattle.focuspoints.specs.Buffer.{roomNumber, withNumbers}
@@ -99,7 +98,7 @@ module _ (block : List ℕ) (raw picture : OptionalSize) (model : List ℕ) (raw
   photograph-no why n en a = rw en (refused-so load (refusalNumber why) (when-refused load v why laid-so a) l)
 
   laid : v .answer ≡ Accepted → IsLaid load (focusMeans v .1)
-  laid a = when-accepted load v (numbered-load block raw picture model) laid-so a
+  laid a = when-accepted load v laid-so a
 
   sound : (a : v .answer ≡ Accepted) → SoundFocus (laid a .focus)
   sound a = rw (laid a .is) at (focus-sound block raw picture model)

@@ -23,8 +23,8 @@ ListsTheLoad =
     f .primary ∷ modeNumber (f .mode) ∷ originNumber (f .origin) ∷ numbers (f .points)
 
 -- 0, 1 to 6, or 13: no other number is returned
-abbrev pub FewNumbers : Type 0
-FewNumbers =
+abbrev pub NumbersReturned : Type 0
+NumbersReturned =
     (block : List ℕ) (raw picture : OptionalSize) (model : List ℕ) (room : ℕ) →
     (photographNumber (focusOf block raw picture model) room ≤ 6)
     ⊎ (photographNumber (focusOf block raw picture model) room ≡ 13)

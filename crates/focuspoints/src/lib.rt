@@ -24,7 +24,7 @@ ghost use Rattle.focuspoints.specs.Inside.{laidNumbers};
 ghost use Rattle.placing.specs.Laid.{focusMeans};
 
 // A size that is given where the first number is not 0.
-fn size_of(given: u32, width: u32, height: u32) -> OptionalSize
+fn given_size(given: u32, width: u32, height: u32) -> OptionalSize
     ensures { λ r. ⌜ r ≡ givenSize given width height ⌝ }
 {
     if given == 0 {
@@ -91,8 +91,8 @@ pub extern "C" fn focuspoints_photograph(
 ) -> u32
     ensures { λ r. ⌜ Photographed (focusOf (now (block .entry)) (givenSize «raw_given» «raw_width» «raw_height») (givenSize «picture_given» «picture_width» «picture_height») (now (model .entry))) (now (out .entry)) r (now (out .exit)) ⌝ }
 {
-    let raw = size_of(raw_given, raw_width, raw_height);
-    let picture = size_of(picture_given, picture_width, picture_height);
+    let raw = given_size(raw_given, raw_width, raw_height);
+    let picture = given_size(picture_given, picture_width, picture_height);
     let focus = placing::nikon::focus(block, raw, picture, model);
     let answer = focus.answer;
     match answer {

@@ -11,7 +11,7 @@ use lib.ListN.{length, length-map}
 use native.Mathlib.Omega.{arith}
 use borrow.Author.Tests.{lt-ltb, le-ltb, le-leb, lt-leb, ltb-true, leb-true, eqb-true}
 use Rattle.laws.proofs.Tests.{by-cond, both, by-order}
-use Rattle.hex.specs.Hex.{within, digitOf, isDigit, allDigits, wellFormed, halfOf, bytesOf}
+use Rattle.hex.specs.Hex.{within, digitOf, isHexDigit, allDigits, wellFormed, halfOf, bytesOf}
 use Rattle.hex.specs.Laws.{AreBytes, digitFor, lineOf, WrittenIsRead, upper, upperLine, EitherCase, ReadIsBytes, ReadIsWritten}
 use Rattle.hex.proofs.Laws.{half-in, well-digits}
 
@@ -142,7 +142,7 @@ pub written-is-read : WrittenIsRead
 written-is-read b h some few =
     let l = line-long b in
     record {
-      well = sym (well-digits (lineOf b) (λ e. omega arith) (omega arith) (omega arith) true (sym (line-digits b h)));
+      well-formed = sym (well-digits (lineOf b) (λ e. omega arith) (omega arith) (omega arith) true (sym (line-digits b h)));
       the-bytes = line-back b h;
     }
 
@@ -167,12 +167,12 @@ unfolding wellFormed
 form-same line = rw (length-map line upper, digits-same line)
 
 pub either-case : EitherCase
-either-case line = record { form = form-same line; the-bytes = bytes-same line }
+either-case line = record { same-form = form-same line; the-bytes = bytes-same line }
 
 -- ---- what is read was written so
 half-small : (c : ℕ) → halfOf c < 16
 unfolding halfOf
-half-small c = by-cond (λ (v : ℕ). v < 16) (isDigit c) (λ e. ltb-true (digitOf c) 16 e) (λ e. omega arith)
+half-small c = by-cond (λ (v : ℕ). v < 16) (isHexDigit c) (λ e. ltb-true (digitOf c) 16 e) (λ e. omega arith)
 
 joined-small : (a b : ℕ) → a < 16 → b < 16 → 16 * a + b < 256
 joined-small a b h g = omega arith
@@ -184,7 +184,7 @@ read-is-bytes (a ∷ []) i = omega arith
 read-is-bytes (a ∷ b ∷ line) zero = joined-small (halfOf a) (halfOf b) (half-small a) (half-small b)
 read-is-bytes (a ∷ b ∷ line) (suc i) = read-is-bytes line i
 
-digit-of-half : (c : ℕ) → isDigit c ≡ true → digitFor (halfOf c) ≡ upper c
+digit-of-half : (c : ℕ) → isHexDigit c ≡ true → digitFor (halfOf c) ≡ upper c
 digit-of-half c e =
     let h = ltb-true (digitOf c) 16 e in
     ap digitFor (sym (half-in c (digitOf c) refl h)) ∙ digit-again c h
@@ -194,8 +194,8 @@ unfolding lineOf bytesOf allDigits
 line-again [] even h = refl
 line-again (a ∷ []) even h = absurd (omega arith)
 line-again (a ∷ b ∷ line) even h =
-    let y = both (isDigit a) (isDigit b && allDigits line) h in
-    let z = both (isDigit b) (allDigits line) (y .1) in
+    let y = both (isHexDigit a) (isHexDigit b && allDigits line) h in
+    let z = both (isHexDigit b) (allDigits line) (y .1) in
     let high : (16 * halfOf a + halfOf b) / 16 ≡ halfOf a = omega (arith, half-small a, half-small b) in
     let low : (16 * halfOf a + halfOf b) % 16 ≡ halfOf b = omega (arith, half-small a, half-small b) in
     rw (high, low, digit-of-half a (y .0), digit-of-half b (z .0), ← line-again line (omega arith) (z .1))

@@ -17,12 +17,12 @@ unfoldable pub digitOf : ℕ → ℕ
 digitOf c =
     cond (within 48 57 c) (c - 48) (cond (within 65 70 c) (c - 55) (cond (within 97 102 c) (c - 87) 16))
 
-abbrev pub isDigit : ℕ → Bool
-isDigit c = ltb (digitOf c) 16
+abbrev pub isHexDigit : ℕ → Bool
+isHexDigit c = ltb (digitOf c) 16
 
 unfoldable pub allDigits : List ℕ → Bool
 allDigits [] = true
-allDigits (c ∷ cs) = isDigit c && allDigits cs
+allDigits (c ∷ cs) = isHexDigit c && allDigits cs
 
 -- not "an empty or overlong line, an odd count of digits, another character"
 unfoldable pub wellFormed : List ℕ → Bool
@@ -31,7 +31,7 @@ wellFormed line =
 
 -- four bits of a byte, 0 for a character that is no digit
 unfoldable pub halfOf : ℕ → ℕ
-halfOf c = cond (isDigit c) (digitOf c) 0
+halfOf c = cond (isHexDigit c) (digitOf c) 0
 
 -- the bytes of a line, two digits each, the higher first
 unfoldable pub bytesOf : List ℕ → List ℕ

@@ -27,7 +27,7 @@ lineOf (byte ∷ bytes) = digitsOfByte byte ++ lineOf bytes
 
 -- a line that is well formed and reads as some bytes
 pub record ReadsAs (line b : List ℕ) : Type 0 where
-  pub well : wellFormed line ≡ true
+  pub well-formed : wellFormed line ≡ true
   pub the-bytes : bytesOf line ≡ b
 
 -- what is written is read back, of as many bytes as "at most 4,096 characters" hold
@@ -44,7 +44,7 @@ upperLine line = map upper line
 
 -- upper case changes neither whether a line is well formed nor its bytes
 pub record SameInUpper (line : List ℕ) : Type 0 where
-  pub form : wellFormed (upperLine line) ≡ wellFormed line
+  pub same-form : wellFormed (upperLine line) ≡ wellFormed line
   pub the-bytes : bytesOf (upperLine line) ≡ bytesOf line
 
 abbrev pub EitherCase : Type 0

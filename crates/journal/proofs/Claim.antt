@@ -27,8 +27,8 @@ use Rattle.sheet.specs.declared.edits.Edit.{Edit}
 use Rattle.sheet.specs.declared.edits.Edit.the-variants.{Cut, Turn, Mirror}
 use Rattle.sheet.specs.declared.edits.Carried.{Carried}
 use Rattle.sheet.specs.declared.Sheet.{Sheet}
-use Rattle.sheet.specs.Place.{wordsOf, moved, placed, cutPasses}
-use Rattle.sheet.specs.Sheet.{leaves, freshSheet, loadedSheet, loadSheet, usable, placedAt, presentFrame as frameOf, withEdits, addEdit, ifOpen, turnSheet, mirrorSheet, keepsPrimary, cutSheet, backSheet}
+use Rattle.sheet.specs.Place.{wordsOf, moved, placed, isGoodCut}
+use Rattle.sheet.specs.Sheet.{leaves, keptBy, freshSheet, loadedSheet, loadSheet, usable, placedAt, presentFrame as frameOf, withEdits, addEdit, ifOpen, turnSheet, mirrorSheet, keepsPrimary, cutSheet, backSheet}
 use Rattle.sheet.specs.Listing.{headNumbers, flat}
 use Rattle.sheet.specs.Lists.{listing as sheetListing, listCount, listIndex, isShort, headIn, listOutcome, listBuffer, scaledAll, fitOutcome, fitBuffer}
 use Rattle.sheet.proofs.Buffer.{flat-length}
@@ -36,10 +36,9 @@ use Rattle.placing.proofs.Places.{length-places, take-places}
 use Rattle.sheet.proofs.Words.{stored-last}
 use Rattle.journal.specs.Journal.{Change, cut, turn, mirror, Journal, empty, holds, frameAfter, stillListed, listed, presentFrame, listing, primaryIndex, primaryAfter, fitted, Answer, no, ok, ended, head, isBadCut, isFull, changeRefusal, backRefusal, journalLoad, journalChange, journalBack, numbers, written, journalList, journalFit}
 use Rattle.journal.specs.Calls.{Call, load, change, back, list, fit, journalStep, runJournal}
-use Rattle.journal.specs.SheetCalls.{numbered, afterEdit, afterList, changed, sheetStep, runSheet}
+use Rattle.journal.specs.SheetCalls.{afterEdit, afterList, changed, sheetStep, runSheet}
 use Rattle.journal.specs.Claim.{Claim}
 use Rattle.journal.proofs.Carry.{but-last}
-use Rattle.placing.proofs.Numbers.{Numbered, number, numbered-load}
 use Rattle.journal.proofs.Placed.{changeOf, pointOf, rowAt, row-count, row-kept, placed-frame, placed-more, placed-point, listed-to-is, flat-numbers}
 
 -- ---- the journal that a sheet stands for
@@ -92,12 +91,11 @@ journal-blank : (s : Sheet) → s .loaded ≡ false → journalOf s ≡ empty
 journal-blank s e = rw e
 
 -- ---- a refused call, and one edit more
-keeps : (s : Sheet) (h : Held s) (n : ℕ) → numbered n [] ≡ refused n
-    → Agree (afterEdit (leaves n s)) (no n [], holds (loadOf s) (rowOf s))
-keeps s h n e = (ap (λ (o : Outcome (List ℕ)). record { outcome = o; buffer = [] }) e, journal-held s h, held h)
+keeps : (s : Sheet) (h : Held s) (n : ℕ) → Agree (afterEdit (keptBy n s)) (no n [], holds (loadOf s) (rowOf s))
+keeps s h n = (refl, journal-held s h, held h)
 
 adds : (s : Sheet) (h : Held s) (e : Edit) → s .standing < 64
-    → Agree (afterEdit (leaves 0 (addEdit s e))) (ok [] [], holds (loadOf s) (rowOf s ++ changeOf e ∷ []))
+    → Agree (afterEdit (leaves (addEdit s e))) (ok [] [], holds (loadOf s) (rowOf s ++ changeOf e ∷ []))
 unfolding addEdit
 adds s h e l = (
   refl,
@@ -134,8 +132,8 @@ present-frame : (s : Sheet) → frameOf s ≡ frameAfter (s .frame) (rowOf s)
 unfolding frameOf placedAt
 present-frame s = placed-frame (s .frame) (getD (s .points) (s .primary) noPoint) (s .edits) (s .standing)
 
-bad-cut : (s : Sheet) (l t w h : ℕ) → isBadCut l t w h (frameAfter (s .frame) (rowOf s)) ≡ not (cutPasses l t w h (frameOf s))
-unfolding isBadCut cutPasses
+bad-cut : (s : Sheet) (l t w h : ℕ) → isBadCut l t w h (frameAfter (s .frame) (rowOf s)) ≡ not (isGoodCut l t w h (frameOf s))
+unfolding isBadCut isGoodCut
 bad-cut s l t w h =
     let f = frameAfter (s .frame) (rowOf s) in
     rw (present-frame s, not-less (f .width) (l + w), not-less (f .height) (t + h))
@@ -166,31 +164,31 @@ primary-stays s h e =
     (ap stillListed (sym more) ∙ is-listed (moved e q))
 
 -- ---- turn and mirror
-plain : (s : Sheet) (h : Held s) (e : Edit) → Agree (afterEdit (ifOpen s (leaves 0 (addEdit s e))))
+plain : (s : Sheet) (h : Held s) (e : Edit) → Agree (afterEdit (ifOpen s (leaves (addEdit s e))))
     (ended (cond (isFull (rowOf s)) (some 8) none) (holds (loadOf s) (rowOf s)) (holds (loadOf s) (rowOf s ++ changeOf e ∷ [])))
 unfolding ifOpen
 plain s h e = rw (usable-held s h, full s) (by (ltb (s .standing) 64) refl)
   where
-    by : (a : Bool) → ltb (s .standing) 64 ≡ a → Agree (afterEdit (cond a (leaves 0 (addEdit s e)) (leaves 8 s)))
+    by : (a : Bool) → ltb (s .standing) 64 ≡ a → Agree (afterEdit (cond a (leaves (addEdit s e)) (keptBy 8 s)))
         (ended (cond (not a) (some 8) none) (holds (loadOf s) (rowOf s)) (holds (loadOf s) (rowOf s ++ changeOf e ∷ [])))
     by true q = adds s h e (ltb-true (s .standing) 64 q)
-    by false q = keeps s h 8 refl
+    by false q = keeps s h 8
 
 -- ---- cut
 cuts : (s : Sheet) (h : Held s) (l t w k : ℕ) → Agree (afterEdit (cutSheet s l t w k)) (journalChange (holds (loadOf s) (rowOf s)) (cut l t w k))
 unfolding cutSheet ifOpen journalChange changeRefusal
 cuts s h l t w k =
     rw (usable-held s h, full s, bad-cut s l t w k, primary-stays s h (Cut l t w k))
-    (by (ltb (s .standing) 64) refl (cutPasses l t w k (frameOf s)) (keepsPrimary s (Cut l t w k)))
+    (by (ltb (s .standing) 64) refl (isGoodCut l t w k (frameOf s)) (keepsPrimary s (Cut l t w k)))
   where
     by : (a : Bool) → ltb (s .standing) 64 ≡ a → (b c : Bool) →
         Agree
-        (afterEdit (cond a (cond b (cond c (leaves 0 (addEdit s (Cut l t w k))) (leaves 10 s)) (leaves 9 s)) (leaves 8 s)))
+        (afterEdit (cond a (cond b (cond c (leaves (addEdit s (Cut l t w k))) (keptBy 10 s)) (keptBy 9 s)) (keptBy 8 s)))
         (ended (cond (not a) (some 8) (cond (not b) (some 9) (cond c none (some 10)))) (holds (loadOf s) (rowOf s)) (holds (loadOf s) (rowOf s ++ cut l t w k ∷ [])))
     by true q true true = adds s h (Cut l t w k) (ltb-true (s .standing) 64 q)
-    by true q true false = keeps s h 10 refl
-    by true q false c = keeps s h 9 refl
-    by false q b c = keeps s h 8 refl
+    by true q true false = keeps s h 10
+    by true q false c = keeps s h 9
+    by false q b c = keeps s h 8
 
 changes : (s : Sheet) (h : Held s) (c : Change) → Agree (afterEdit (changed s c)) (journalChange (holds (loadOf s) (rowOf s)) c)
 unfolding turnSheet mirrorSheet journalChange changeRefusal
@@ -200,7 +198,7 @@ changes s h mirror = plain s h Mirror
 
 -- ---- back
 fewer : (s : Sheet) (h : Held s) → (s .standing ≡ 0 → ⊥)
-    → Agree (afterEdit (leaves 0 (withEdits s (s .edits) (s .standing - 1))))
+    → Agree (afterEdit (leaves (withEdits s (s .edits) (s .standing - 1))))
     (ok [] [], holds (loadOf s) (take (length (rowOf s) - 1) (rowOf s)))
 fewer s h z = (
   refl,
@@ -225,9 +223,9 @@ backs s h =
     rw (usable-held s h, row-count (s .edits) (s .standing)) (by (eqb (s .standing) 0) refl)
   where
     by : (t : Bool) → eqb (s .standing) 0 ≡ t
-        → Agree (afterEdit (cond t (leaves 11 s) (leaves 0 (withEdits s (s .edits) (s .standing - 1)))))
+        → Agree (afterEdit (cond t (keptBy 11 s) (leaves (withEdits s (s .edits) (s .standing - 1)))))
         (ended (cond t (some 11) none) (holds (loadOf s) (rowOf s)) (holds (loadOf s) (take (s .standing - 1) (rowOf s))))
-    by true q = keeps s h 11 refl
+    by true q = keeps s h 11
     by false q = rw (row-count (s .edits) (s .standing)) at (fewer s h (eqb-false (s .standing) 0 q))
 
 -- ---- list and fit
@@ -281,11 +279,10 @@ fits s h box b =
     by false = writes s h box ps b (length-map (listing (loadOf s) (rowOf s)) (λ p. scaledPoint p (presentFrame (loadOf s) (rowOf s)) box))
 
 -- ---- load
-loads : (s : Sheet) (g : Good s) (o : Outcome Focus) → Sound o → Numbered o → Agree (afterEdit (loadSheet s o)) (journalLoad (journalOf s) o)
+loads : (s : Sheet) (g : Good s) (o : Outcome Focus) → Sound o → Agree (afterEdit (loadSheet s o)) (journalLoad (journalOf s) o)
 unfolding loadSheet loadedSheet journalLoad
-loads s g (refused n) d (number _ a b) =
-    (ap (λ (o : Outcome (List ℕ)). record { outcome = o; buffer = [] }) (rw (ne-eqb n 0 (λ z. omega (arith, a, z)))), refl, g)
-loads s g (accepted f) d k = (
+loads s g (refused n) d = (refl, refl, g)
+loads s g (accepted f) d = (
   refl,
   ap (λ (ps : List FocusPoint). holds (record { frame = f .frame; points = ps; primary = f .primary; mode = f .mode; origin = f .origin }) [])
       (take-places (f .points)),
@@ -306,7 +303,7 @@ AgreeAt s c = Agree (sheetStep s c) (journalStep (journalOf s) c)
 blank-step : (s : Sheet) (e : s .loaded ≡ false) (c : Call) → AgreeAt s c
 unfolding sheetStep journalStep turnSheet mirrorSheet backSheet cutSheet ifOpen listOutcome listBuffer fitOutcome fitBuffer journalChange journalBack journalList journalFit
 blank-step s e (load block raw picture model) =
-    loads s (blank e) (focusOf block raw picture model) (focus-sound block raw picture model) (numbered-load block raw picture model)
+    loads s (blank e) (focusOf block raw picture model) (focus-sound block raw picture model)
 blank-step s e (change (cut l t w h)) = rw (usable-blank s e, journal-blank s e) (refl, refl, blank e)
 blank-step s e (change turn) = rw (usable-blank s e, journal-blank s e) (refl, refl, blank e)
 blank-step s e (change mirror) = rw (usable-blank s e, journal-blank s e) (refl, refl, blank e)
@@ -317,7 +314,7 @@ blank-step s e (fit box b) = rw (usable-blank s e, journal-blank s e) (refl, ref
 held-step : (s : Sheet) (h : Held s) (c : Call) → AgreeAt s c
 unfolding sheetStep journalStep
 held-step s h (load block raw picture model) =
-    loads s (held h) (focusOf block raw picture model) (focus-sound block raw picture model) (numbered-load block raw picture model)
+    loads s (held h) (focusOf block raw picture model) (focus-sound block raw picture model)
 held-step s h (change c) = rw (journal-held s h) (changes s h c)
 held-step s h back = rw (journal-held s h) (backs s h)
 held-step s h (list b) = rw (journal-held s h) (lists s h b, refl, held h)

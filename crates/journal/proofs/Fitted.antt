@@ -45,6 +45,6 @@ fit-is-near calls f row e box z w h i l =
     let m : getD (fitted f row box) i noPoint ≡ scaledPoint p g box =
     map-at (λ q. scaledPoint q g box) (listing f row) i l in
     record {
-      near = rw m (scaled-near p g box k w h);
-      on = rw m (fits-on-frame box (scaledPoint p g box) (scaled-fits p g box k z));
+      half-pixel = rw m (scaled-near p g box k w h);
+      on-box = rw m (fits-on-frame box (scaledPoint p g box) (scaled-fits p g box k z));
     }

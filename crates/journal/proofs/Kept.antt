@@ -14,8 +14,8 @@ use Rattle.placing.specs.Focus.{focusOf}
 use Rattle.placing.specs.Load.{Focus}
 use Rattle.sheet.specs.declared.edits.Edit.the-variants.{Cut}
 use Rattle.sheet.specs.declared.Sheet.{Sheet}
-use Rattle.sheet.specs.Sheet.{leaves, loadSheet, usable, presentFrame, withEdits, addEdit, ifOpen, turnSheet, mirrorSheet, keepsPrimary, cutSheet, backSheet}
-use Rattle.sheet.specs.Place.{cutPasses}
+use Rattle.sheet.specs.Sheet.{leaves, keptBy, loadSheet, usable, presentFrame, withEdits, addEdit, ifOpen, turnSheet, mirrorSheet, keepsPrimary, cutSheet, backSheet}
+use Rattle.sheet.specs.Place.{isGoodCut}
 use Rattle.sheet.specs.Listing.{headNumbers, over, flat}
 use Rattle.sheet.specs.Lists.{listing as sheetListing, isShort, headIn, scaledAll, listOutcome, listBuffer, fitOutcome, fitBuffer}
 use Rattle.journal.specs.Journal.{Change, cut, turn, mirror, Answer}
@@ -31,27 +31,27 @@ isAccepted (accepted given) = true
 abbrev Keeps : Answer × Sheet → Sheet → List ℕ → Type 0
 Keeps r s b = (isAccepted (r .0 .outcome) ≡ true) ⊎ ((r .1 ≡ s) × (r .0 .buffer ≡ b))
 
-abbrev KeepsEdited : ℕ × Sheet → Sheet → Type 0
-KeepsEdited r s = (r .0 ≡ 0) ⊎ (r .1 ≡ s)
+abbrev KeepsEdited : Outcome (List ℕ) × Sheet → Sheet → Type 0
+KeepsEdited r s = (isAccepted (r .0) ≡ true) ⊎ (r .1 ≡ s)
 
-keeps-edited : {r : ℕ × Sheet} {s : Sheet} → KeepsEdited r s → Keeps (afterEdit r) s []
-keeps-edited (inl e) = inl (rw e)
-keeps-edited (inr e) = inr (e, refl)
+keeps-edited : (r : Outcome (List ℕ) × Sheet) (s : Sheet) → KeepsEdited r s → Keeps (afterEdit r) s []
+keeps-edited r s (inl e) = inl e
+keeps-edited r s (inr e) = inr (e, refl)
 
-opens : (s : Sheet) (r : ℕ × Sheet) → KeepsEdited r s → KeepsEdited (ifOpen s r) s
+opens : (s : Sheet) (r : Outcome (List ℕ) × Sheet) → KeepsEdited r s → KeepsEdited (ifOpen s r) s
 unfolding ifOpen
 opens s r k = by (usable s) (ltb (s .standing) 64)
   where
-    by : (a b : Bool) → KeepsEdited (cond a (cond b r (leaves 8 s)) (leaves 7 s)) s
+    by : (a b : Bool) → KeepsEdited (cond a (cond b r (keptBy 8 s)) (keptBy 7 s)) s
     by true true = k
     by true false = inr refl
     by false b = inr refl
 
 cuts : (s : Sheet) (l t w h : ℕ) → KeepsEdited (cutSheet s l t w h) s
 unfolding cutSheet
-cuts s l t w h = opens s _ (by (cutPasses l t w h (presentFrame s)) (keepsPrimary s (Cut l t w h)))
+cuts s l t w h = opens s _ (by (isGoodCut l t w h (presentFrame s)) (keepsPrimary s (Cut l t w h)))
   where
-    by : (a b : Bool) → KeepsEdited (cond a (cond b (leaves 0 (addEdit s (Cut l t w h))) (leaves 10 s)) (leaves 9 s)) s
+    by : (a b : Bool) → KeepsEdited (cond a (cond b (leaves (addEdit s (Cut l t w h))) (keptBy 10 s)) (keptBy 9 s)) s
     by true true = inl refl
     by true false = inr refl
     by false b = inr refl
@@ -66,7 +66,7 @@ backs : (s : Sheet) → KeepsEdited (backSheet s) s
 unfolding backSheet
 backs s = by (usable s) (eqb (s .standing) 0)
   where
-    by : (a b : Bool) → KeepsEdited (cond a (cond b (leaves 11 s) (leaves 0 (withEdits s (s .edits) (s .standing - 1)))) (leaves 7 s)) s
+    by : (a b : Bool) → KeepsEdited (cond a (cond b (keptBy 11 s) (leaves (withEdits s (s .edits) (s .standing - 1)))) (keptBy 7 s)) s
     by true true = inr refl
     by true false = inl refl
     by false b = inr refl
@@ -98,8 +98,8 @@ fits s box b = by (usable s) (hasZeroSide box) (isShort s (length b))
 steps : (s : Sheet) (c : Call) → Keeps (sheetStep s c) s (lent c)
 unfolding sheetStep
 steps s (load block raw picture model) = loads s (focusOf block raw picture model)
-steps s (change c) = keeps-edited (changes s c)
-steps s back = keeps-edited (backs s)
+steps s (change c) = keeps-edited (changed s c) s (changes s c)
+steps s back = keeps-edited (backSheet s) s (backs s)
 steps s (list b) = lists s b
 steps s (fit box b) = fits s box b
 

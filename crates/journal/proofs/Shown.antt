@@ -85,9 +85,9 @@ primary-in f row l h =
     let before = listed (f .frame) row (take (f .primary) (f .points)) in
     record {
       in-listing = seam-in before rest (shown f row) q parts;
-      before = seam-before before rest (shown f row) q parts ∙ listed-is f row (take (f .primary) (f .points));
-      there = seam-at before rest (shown f row) q parts;
-      inside = inside;
+      before-it = seam-before before rest (shown f row) q parts ∙ listed-is f row (take (f .primary) (f .points));
+      at-index = seam-at before rest (shown f row) q parts;
+      in-every-cut = inside;
     }
   where
     listed-told : (b : Bool) → stillListed (cond b (some (placeAfter (f .frame) row (primaryOf f))) none) ≡ true → b ≡ true

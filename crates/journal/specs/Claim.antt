@@ -114,9 +114,9 @@ ListsExactly =
 -- the primary is among them: the answer's index is its place
 pub record PrimaryListed (f : Focus) (standing : List Change) : Type 0 where
   pub in-listing : primaryIndex f standing < length (shown f standing)
-  pub before : take (primaryIndex f standing) (shown f standing) ≡ shownBefore f standing
-  pub there : getD (shown f standing) (primaryIndex f standing) noPoint ≡ placeAfter (f .frame) standing (primaryOf f)
-  pub inside : fitsEveryCut (f .frame) standing (primaryOf f) ≡ true
+  pub before-it : take (primaryIndex f standing) (shown f standing) ≡ shownBefore f standing
+  pub at-index : getD (shown f standing) (primaryIndex f standing) noPoint ≡ placeAfter (f .frame) standing (primaryOf f)
+  pub in-every-cut : fitsEveryCut (f .frame) standing (primaryOf f) ≡ true
 
 abbrev pub PrimaryIsListed : Type 0
 PrimaryIsListed =
@@ -200,8 +200,8 @@ FitsExactly =
 
 -- of the i-th listed point: its fitted center is within half a pixel on both axes and lies on the box
 pub record FittedNear (f : Focus) (standing : List Change) (box : Size) (i : ℕ) : Type 0 where
-  pub near : CenterNear (getD (listing f standing) i noPoint .center) (presentFrame f standing) box (getD (fitted f standing box) i noPoint .center)
-  pub on : OnFrame box (getD (fitted f standing box) i noPoint .center)
+  pub half-pixel : CenterNear (getD (listing f standing) i noPoint .center) (presentFrame f standing) box (getD (fitted f standing box) i noPoint .center)
+  pub on-box : OnFrame box (getD (fitted f standing box) i noPoint .center)
 
 abbrev pub FitIsNear : Type 0
 FitIsNear =

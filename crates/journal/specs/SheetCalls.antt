@@ -1,10 +1,8 @@
 -- Lists of calls on a sheet, by the definitions that its contracts promise.
 use Prim.Native.Nat.{ℕ}
-use mathlib.Core.Bool.{cond}
 use mathlib.Core.List.{List, [], _∷_}
-use lib.Dec.{eqb}
 use lib.ListN.{length}
-use Rattle.reading.specs.Outcome.{Outcome, refused, accepted}
+use Rattle.reading.specs.Outcome.{Outcome}
 use Rattle.placing.specs.Focus.{focusOf}
 use Rattle.sheet.specs.declared.Sheet.{Sheet}
 use Rattle.sheet.specs.Sheet.{loadSheet, turnSheet, mirrorSheet, backSheet, cutSheet}
@@ -12,19 +10,15 @@ use Rattle.sheet.specs.Lists.{listOutcome, listBuffer, fitOutcome, fitBuffer}
 use Rattle.journal.specs.Journal.{Change, cut, turn, mirror, Answer}
 use Rattle.journal.specs.Calls.{Call, load, change, back, list, fit}
 
--- a call that ends with one of 01's numbers, 0 if it is accepted with what it gives
-abbrev pub numbered : ℕ → List ℕ → Outcome (List ℕ)
-numbered n given = cond (eqb n 0) (accepted given) (refused n)
-
 -- of a call that gives nothing but a sheet
-abbrev pub afterEdit : ℕ × Sheet → Answer × Sheet
-afterEdit r = (record { outcome = numbered (r .0) []; buffer = [] }, r .1)
+abbrev pub afterEdit : Outcome (List ℕ) × Sheet → Answer × Sheet
+afterEdit r = (record { outcome = r .0; buffer = [] }, r .1)
 
 -- of list and fit, which leave the sheet as it is
 abbrev pub afterList : Outcome (List ℕ) → List ℕ → Sheet → Answer × Sheet
 afterList outcome buffer s = (record { outcome = outcome; buffer = buffer }, s)
 
-abbrev pub changed : Sheet → Change → ℕ × Sheet
+abbrev pub changed : Sheet → Change → Outcome (List ℕ) × Sheet
 changed s (cut left top width height) = cutSheet s left top width height
 changed s turn = turnSheet s
 changed s mirror = mirrorSheet s

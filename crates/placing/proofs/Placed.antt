@@ -19,11 +19,10 @@ use Rattle.placing.specs.declared.named.Window.{Window}
 use Rattle.placing.specs.Points.{tableOf, points}
 use Rattle.placing.specs.declared.points.PointTable.{PointTable}
 use Rattle.placing.specs.declared.points.PointTable.the-variants.{NoTable, NikonD600}
-use Rattle.placing.specs.Inside.{noLayoutPoint}
 use Rattle.placing.specs.Named.{lessOrigin, fitsWindow, isNamed, isListed, placedFrame, listedFrom, hasNumber, placedIn, windowBy, windowOf, namedOutcome}
 use Rattle.placing.specs.Table.{PlacedByFrame, NoPrimary}
 use Rattle.placing.proofs.Frames.{by-frame}
-use Rattle.placing.proofs.Table.{number-is, fits-at}
+use Rattle.placing.proofs.Table.{noLayoutPoint, number-is, fits-at}
 
 module _ (w : Window) (primary mask : ℕ) where
   -- a row that fits and has the primary's number is listed

@@ -13,13 +13,17 @@ use Rattle.laws.proofs.Tests.{both}
 use Rattle.placing.specs.Fit.{axisFits, hasZeroSide, centerLiesOn, areaFits, noArea, liesOn, pointFits, sameSize, by}
 use Rattle.placing.specs.declared.points.FocusLayoutPoint.{FocusLayoutPoint}
 use Rattle.placing.specs.Points.{points}
-use Rattle.placing.specs.Inside.{noLayoutPoint}
 use Rattle.placing.specs.Named.{whole, dx, medium, fitsWindow}
 use Rattle.placing.specs.Table.{rowHolds, rowsHold, TableHolds}
 
 pub table-holds : TableHolds
 unfolding rowsHold rowHolds sameSize fitsWindow pointFits liesOn centerLiesOn areaFits noArea hasZeroSide axisFits
 table-holds = refl
+
+-- what stands past the table's end
+abbrev pub noLayoutPoint : FocusLayoutPoint
+noLayoutPoint =
+    record { number = 0; center = record { x = 0; y = 0 }; size = record { width = 0; height = 0 } }
 
 -- the row at place i of a list whose first number is n
 row-of : (n : ℕ) (ps : List FocusLayoutPoint) (i : ℕ) → rowsHold n ps ≡ true → i < length ps → rowHolds (n + i) (getD ps i noLayoutPoint) ≡ true

@@ -100,6 +100,6 @@ unfoldable pub rowsAgree : List Example → Bool
 rowsAgree [] = true
 rowsAgree (e ∷ es) = agrees e && rowsAgree es
 
--- every starred example rowsAgree
+-- every starred example agrees with the written rules
 abbrev pub Starred : Type 0
 Starred = rowsAgree starredRows ≡ true

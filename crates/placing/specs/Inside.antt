@@ -4,7 +4,6 @@ use mathlib.Core.List.{List}
 use lib.ListN.{length}
 use Rattle.reading.specs.Outcome.{Outcome, refused, accepted}
 use Rattle.placing.specs.declared.focus.FocusPoint.{FocusPoint}
-use Rattle.placing.specs.declared.points.FocusLayoutPoint.{FocusLayoutPoint}
 use Rattle.placing.specs.declared.named.Candidate.{Candidate}
 use Rattle.placing.specs.declared.named.Candidate.the-variants.{Out, In}
 use Rattle.placing.specs.declared.load.PointPlaces.{PointPlaces}
@@ -17,11 +16,6 @@ use Rattle.placing.specs.Named.{placedIn}
 -- points in 39 places, and how many there are
 abbrev pub pointPlaces : List FocusPoint → PointPlaces
 pointPlaces ps = record { points = places ps; count = length ps }
-
--- what stands past the table's end
-abbrev pub noLayoutPoint : FocusLayoutPoint
-noLayoutPoint =
-    record { number = 0; center = record { x = 0; y = 0 }; size = record { width = 0; height = 0 } }
 
 -- a point of the table that is listed, or is not
 abbrev pub candidateOf : Bool → FocusPoint → Candidate

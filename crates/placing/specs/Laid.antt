@@ -1,6 +1,7 @@
--- How the code lays out what a load comes to: 01's number, and the fields of its value, the unused places among them.
+-- How the code lays out what a load comes to: refused by 01's number or accepted, and the fields of its value, the unused places among
+-- them.
 use Prim.Native.Nat.{ℕ, _-_}
-use mathlib.Core.List.{List, _++_}
+use mathlib.Core.List.{List, [], _++_}
 use lib.ListN.{length, replicate}
 use Rattle.reading.specs.Outcome.{Outcome, refused, accepted}
 use Rattle.reading.specs.declared.geometry.Size.{Size}
@@ -25,10 +26,10 @@ refusalNumber BadRecord = 4
 refusalNumber PositionUnplaced = 5
 refusalNumber NamesUnplaced = 6
 
--- 01's number for each way in which a load ends, 0 for accepted
-unfoldable pub loadNumber : FocusAnswer → ℕ
-loadNumber Accepted = 0
-loadNumber (Refused why) = refusalNumber why
+-- what the code's answer means: accepted, with no numbers to give, or refused by 01's number
+unfoldable pub loadMeans : FocusAnswer → Outcome (List ℕ)
+loadMeans Accepted = accepted []
+loadMeans (Refused why) = refused (refusalNumber why)
 
 -- "39 places and a count": the points, and then places without one
 unfoldable pub places : List FocusPoint → List FocusPoint
@@ -55,11 +56,11 @@ nothingLaid =
       origin = Recorded;
     }
 
--- what a load comes to, as 01's number, 0 for accepted, and what then stands in the fields
-unfoldable pub laidOut : Outcome Focus → ℕ × Laid
-laidOut (refused n) = (n, nothingLaid)
+-- what a load comes to: refused by 01's number or accepted, and what then stands in the fields
+unfoldable pub laidOut : Outcome Focus → Outcome (List ℕ) × Laid
+laidOut (refused n) = (refused n, nothingLaid)
 laidOut (accepted f) = (
-  0,
+  accepted [],
   record {
     frame = f .frame;
     points = places (f .points);
@@ -70,10 +71,10 @@ laidOut (accepted f) = (
   },
 )
 
--- what the code's value means: 01's number for its answer, and its fields
-abbrev pub focusMeans : FocusPoints → ℕ × Laid
+-- what the code's value means: that of its answer, and its fields
+abbrev pub focusMeans : FocusPoints → Outcome (List ℕ) × Laid
 focusMeans r = (
-  loadNumber (r .answer),
+  loadMeans (r .answer),
   record {
     frame = r .frame;
     points = r .points;

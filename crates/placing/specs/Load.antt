@@ -32,6 +32,6 @@ noPoint =
       «in_focus» = Unrecorded;
     }
 
--- one point, the primary, as recorded
+-- one point alone, which is the primary: the origin is 01's 'recorded'
 abbrev pub alone : Size → FocusPoint → FocusAreaMode → Outcome Focus
 alone f p m = accepted (record { frame = f; points = p ∷ []; primary = 0; mode = m; origin = Recorded })

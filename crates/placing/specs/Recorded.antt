@@ -78,7 +78,7 @@ inWindow p f w =
     (pointIn w (movedPoint p f w))
     (refused 5)
 
--- "The uncut side must equal the frame's"
+-- "Cropped less on both sides: scale to the target"; less on one: "The uncut side must equal the frame's"; "Any other crop: 5."
 abbrev pub ontoWindow : CutSides → FocusPoint → Size → Size → Outcome Placement
 ontoWindow Both p f w = scaledTo p f w
 ontoWindow Width p f w = cond (eqb (w .height) (f .height)) (inWindow p f w) (refused 5)

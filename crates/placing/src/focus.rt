@@ -17,7 +17,7 @@ pub struct FocusPoint {
 }
 
 // 01's number for what a point says of its focus.
-pub fn in_focus_number(point: FocusPoint) -> u32
+pub fn in_focus_of(point: FocusPoint) -> u32
     ensures { λ r. ⌜ r ≡ inFocusNumber (point .«in_focus») ⌝ }
 {
     let in_focus = point.in_focus;

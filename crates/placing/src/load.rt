@@ -7,8 +7,8 @@ use reading::geometry::Size;
 ghost use mathlib.Core.Path.{_≡_};
 ghost use lib.ListN.{replicate};
 ghost use Rattle.placing.specs.Load.{noPoint, originNumber};
-ghost use Rattle.placing.specs.Laid.{refusalNumber, loadNumber, focusMeans, laidOut};
-ghost use Rattle.reading.specs.Outcome.{refused};
+ghost use Rattle.placing.specs.Laid.{refusalNumber, loadMeans, focusMeans, laidOut};
+ghost use Rattle.reading.specs.Outcome.{refused, numberOf};
 
 // Where points come from: the record's own position, or the table of the body's points.
 pub enum FocusOrigin {
@@ -111,7 +111,7 @@ pub fn refusal_number(why: Refusal) -> u32
 
 // 01's number for how a load ends, 0 for accepted.
 pub fn load_number(answer: FocusAnswer) -> u32
-    ensures { λ r. ⌜ r ≡ loadNumber answer ⌝ }
+    ensures { λ r. ⌜ r ≡ numberOf (loadMeans answer) ⌝ }
 {
     match answer {
         FocusAnswer::Accepted => 0,

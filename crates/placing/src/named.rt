@@ -28,7 +28,7 @@ pub struct Window {
     pub origin: Point,
 }
 
-// The frame of the points placed from the table, if the crop is one that the table's record confirms.
+// The frame of the points placed from the table, if the crop is one whose window in the table's frame is known.
 pub enum PlacedFrame {
     Unconfirmed,
     Confirmed(Window),
@@ -86,7 +86,7 @@ fn picture_is(picture: OptionalSize, size: Size, missing: bool) -> bool
     }
 }
 
-// The window of a crop: only the DX crop where the table's record has it, in a picture of its size.
+// The window of a crop: only the DX crop's is known, where that starts and in a picture of its size.
 fn on_crop(crop: CropHiSpeed, picture: OptionalSize) -> PlacedFrame
     ensures { λ r. ⌜ frameMeans r ≡ onCrop crop picture ⌝ }
 {

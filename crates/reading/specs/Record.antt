@@ -49,9 +49,6 @@ abbrev pub versions : List Version
 versions =
     version 1 0 0 ∷ version 1 1 1 ∷ version 3 0 2 ∷ version 3 1 2 ∷ version 4 0 3 ∷ version 4 1 3 ∷ version 4 2 3 ∷ []
 
-abbrev pub noVersion : Version
-noVersion = record { text = []; layout = 0 }
-
 -- the layout of the first version of a list whose text the record starts with
 unfoldable pub layoutAmong : List Version → List ℕ → KnownLayout
 layoutAmong [] v = Unknown

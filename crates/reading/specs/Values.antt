@@ -1,4 +1,4 @@
--- 01, "Four values": manual focus, the crop, and the crop area. (The fourth, the record, is in Record.)
+-- 01, "Four values": manual focus, the crop, the crop area, and which value is the record (what a record says is in Record).
 use Prim.Native.Nat.{ℕ, zero, suc, _+_, _*_}
 use mathlib.Core.Bool.{Bool, cond, _&&_, _||_}
 use mathlib.Core.List.{List, [], _∷_, reverse}

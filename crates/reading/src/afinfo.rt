@@ -10,8 +10,8 @@ ghost use Prim.Native.Nat.{_<_};
 ghost use mathlib.Core.Path.{_≡_};
 ghost use lib.ListN.{getD, drop};
 ghost use Rattle.numbers.specs.Numbers.{shortsOf};
-ghost use Rattle.reading.specs.Inside.{ifZero};
-ghost use Rattle.reading.specs.Record.{versions, noVersion, layouts, noLayout, layoutOf, areaModeOf, inFocusOf, maskOf, namedOf, sizeAt, recordIn, recordMeans, recordOf};
+ghost use Rattle.reading.specs.Inside.{ifZero, noVersion};
+ghost use Rattle.reading.specs.Record.{versions, layouts, noLayout, layoutOf, areaModeOf, inFocusOf, maskOf, namedOf, sizeAt, recordIn, recordMeans, recordOf};
 
 // Where a layout keeps something, if it does.
 pub enum Place {

@@ -260,7 +260,7 @@ fn kept_tags(block: &[u8], order: ByteOrder) -> TagList
     }
 }
 
-// Which of the four tags have a kept entry. Their order is open.
+// Which of the four tags have a kept entry. 01 leaves their order open; here it is that of their numbers.
 pub fn contents(block: &[u8]) -> TagList
     ensures { λ r. ⌜ (contentsNumber (r .answer) ≡ numberOf (blockOf (now (block .entry)))) × ContentsOf (blockOf (now (block .entry))) (now (block .entry)) r × (r ≡ contentsOf (now (block .entry))) ⌝ }
 {

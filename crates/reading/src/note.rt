@@ -1,5 +1,5 @@
 // A note: its lent bytes with their byte order, given together; and all that a load is told by the note of a block.
-// `record` only takes the note apart and calls a function of a plain slice and an order; none asks anything of its caller.
+// `record` only takes the note apart and calls a function of a plain slice and an order. No function asks anything of its caller.
 use crate::afinfo::AfInfo2;
 use crate::afinfo::FocusRecord;
 use crate::geometry::OptionalSize;
@@ -35,7 +35,7 @@ impl<'a> Note<'a> {
 }
 
 // The record of a block of that order, through its note: callers give a plain slice and an order.
-pub fn record_of(block: &[u8], order: ByteOrder) -> AfInfo2
+pub fn af_info2_of(block: &[u8], order: ByteOrder) -> AfInfo2
     ensures { λ r. ⌜ recordMeans r ≡ afInfo2Of order (now (block .entry)) ⌝ }
 {
     Note::new(block, order).record()
@@ -61,7 +61,7 @@ pub enum NoteAnswer {
 fn values_in(block: &[u8], order: ByteOrder, raw: OptionalSize) -> NoteAnswer
     ensures { λ r. ⌜ noteMeans r ≡ valuesIn order (now (block .entry)) raw ⌝ }
 {
-    match record_of(block, order) {
+    match af_info2_of(block, order) {
         AfInfo2::NoRecord => NoteAnswer::NoRecord,
         AfInfo2::BadRecord => {
             if crate::nikon::manual_focus(block, order) {

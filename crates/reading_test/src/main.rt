@@ -186,7 +186,7 @@ fn af_info2(found: AfInfo2) {
 
 // The record, asked of the block's note.
 fn record(block: &[u8], order: ByteOrder) {
-    af_info2(reading::note::record_of(block, order));
+    af_info2(reading::note::af_info2_of(block, order));
 }
 
 fn tag(n: u16) {

@@ -23,7 +23,7 @@ use Rattle.session.specs.Laws.{LineIsRead, CaseIsIgnored, WasEncoded, Li
 -- ---- a call's line is read
 reads-as : (line b : List ℕ) → ReadsAs line b → spelled line ≡ spelledIn b
 unfolding spelled
-reads-as line b r = rw (r .well, r .the-bytes)
+reads-as line b r = rw (r .well-formed, r .the-bytes)
 
 called : (b : List ℕ) (x : Outcome LineCall) → callOf b ≡ x → spelledIn b ≡ spelledBy b x
 unfolding spelledIn
@@ -36,15 +36,15 @@ some-bytes s = omega (arith, length-append s (checkOf s ∷ []))
 pub line-is-read : LineIsRead
 line-is-read call model block h =
     let b = encoded call model block in
-    let bytes = encoded-is-bytes call model block (h .can-be) (h .model-bytes) (h .block-bytes) in
-    let back = encoded-is-read call model block (h .can-be) in
+    let bytes = encoded-is-bytes call model block (h .encodable) (h .model-bytes) (h .block-bytes) in
+    let back = encoded-is-read call model block (h .encodable) in
     reads-as (lineOf b) b (written-is-read b bytes (some-bytes _) (h .short)) ∙
     called b (accepted call) (back .the-call) ∙
     ap₂ (λ (m k : List ℕ). accepted (spelling call m k)) (back .the-model) (back .the-block)
 
 pub case-is-ignored : CaseIsIgnored
 unfolding spelled
-case-is-ignored line = rw (either-case line .form, either-case line .the-bytes)
+case-is-ignored line = rw (either-case line .same-form, either-case line .the-bytes)
 
 -- ---- what is read is a call's line
 no-bytes : AreBytes []
@@ -75,7 +75,7 @@ module _ (b : List ℕ) (h : AreBytes b) where
 
 module _ (line b : List ℕ) (r : ReadsAs line b) where
   short-bytes : length b ≤ 2048
-  short-bytes = omega (arith, bytes-long line, ap length (r .the-bytes), well-short line (r .well))
+  short-bytes = omega (arith, bytes-long line, ap length (r .the-bytes), well-short line (r .well-formed))
 
   line-bytes : AreBytes b
   line-bytes = rw (← r .the-bytes) (read-is-bytes line)
@@ -87,8 +87,8 @@ module _ (line b : List ℕ) (r : ReadsAs line b) where
         call = call;
         model = modelGiven call b;
         block = blockGiven call b;
-        can-be = record { can-be = w .can-be; model-bytes = given .0; block-bytes = given .1; short = rw (w .so) short-bytes };
-        so = read-is-written line (r .well) ∙ ap lineOf (r .the-bytes ∙ sym (w .so));
+        writable = record { encodable = w .encodable; model-bytes = given .0; block-bytes = given .1; short = rw (w .its-bytes) short-bytes };
+        its-line = read-is-written line (r .well-formed) ∙ ap lineOf (r .the-bytes ∙ sym (w .its-bytes));
         spells = reads-as line b r ∙ called b (accepted call) e;
       }
 
@@ -103,6 +103,6 @@ pub line-was-encoded : LineWasEncoded
 unfolding spelled
 line-was-encoded line =
     ⊎-elim
-    (λ (e : wellFormed line ≡ true). was-encoded line (bytesOf line) (record { well = e; the-bytes = refl }))
+    (λ (e : wellFormed line ≡ true). was-encoded line (bytesOf line) (record { well-formed = e; the-bytes = refl }))
     (λ (e : wellFormed line ≡ false). inl (rw e))
     (by-bool (wellFormed line))

@@ -12,7 +12,7 @@ use Rattle.answers.specs.Answers.{okText, noText, tagsText, headText, pointsTex
 use Rattle.text.specs.Put.{Put, Puts}
 use Rattle.text.proofs.Laws.{_▹_, at-most}
 use Rattle.laws.proofs.Tests.{by-cond}
-use Rattle.reading.specs.Outcome.{Outcome, refused, accepted}
+use Rattle.reading.specs.Outcome.{Outcome, refused, accepted, numberOf}
 use Rattle.reading.specs.Block.{blockOf, findOf, isKept}
 use Rattle.reading.specs.Focus.{modeNumber}
 use Rattle.reading.specs.Contents.{contentsOf, contentsIn, fourTags, keptAmong, keptTags}
@@ -23,7 +23,11 @@ use Rattle.reading.specs.declared.nikon.TagList.{TagList}
 use Rattle.reading.specs.declared.nikon.ContentsAnswer.the-variants as contents-answers
 use Rattle.placing.specs.Fit.{hasZeroSide}
 use Rattle.placing.specs.Load.{originNumber}
-use Rattle.placing.specs.Laid.{loadNumber}
+use Rattle.placing.specs.declared.load.Refusal.{Refusal}
+use Rattle.placing.specs.declared.load.Refusal.the-variants as why
+use Rattle.placing.specs.declared.load.FocusAnswer.{FocusAnswer}
+use Rattle.placing.specs.declared.load.FocusAnswer.the-variants as load-answer
+use Rattle.placing.specs.Laid.{refusalNumber, loadMeans}
 use Rattle.placing.specs.Focus.{focusOf}
 use Rattle.calls.specs.declared.Call.{Call as Parsed}
 use Rattle.calls.specs.Format.{callOf, callMeans}
@@ -34,27 +38,54 @@ use Rattle.sheet.specs.declared.listing.ListHead.{ListHead}
 use Rattle.sheet.specs.declared.listing.ListAnswer.{ListAnswer}
 use Rattle.sheet.specs.declared.listing.ListAnswer.the-variants.{Listed}
 use Rattle.sheet.specs.Sheet.{editedMeans, loadedMeans, usable, loadSheet, presentFrame}
-use Rattle.sheet.specs.Answer.{editNumber}
+use Rattle.sheet.specs.declared.edits.EditAnswer.{EditAnswer}
+use Rattle.sheet.specs.declared.edits.EditAnswer.the-variants as edit
+use Rattle.sheet.specs.Answer.{editMeans}
 use Rattle.sheet.specs.Listing.{listMeans, headNumbers}
 use Rattle.sheet.specs.Lists.{listing, listCount, listIndex, isShort, headIn, listOutcome, listBuffer, fitOutcome, fitBuffer}
 use Rattle.sheet.proofs.Listed.{listed-length}
 use Rattle.sheet.proofs.Usable.{usable-told}
 use Rattle.journal.specs.Journal.{Answer}
 use Rattle.journal.specs.Calls.{Call, load, list, fit}
-use Rattle.journal.specs.SheetCalls.{numbered, afterEdit, sheetStep}
+use Rattle.journal.specs.SheetCalls.{afterEdit, sheetStep}
 use Rattle.session.specs.declared.Stepped.{Stepped}
 use Rattle.session.specs.Lines.{contents, asks, spelledBy, spelledIn, lentBuffer}
 use Rattle.session.specs.Texts.{givenText, outcomeText, answerText, tagListText}
 use Rattle.session.specs.Answering.{mostText, Answers}
-use Rattle.session.specs.Inside.{fewPoints}
+use Rattle.session.specs.Inside.{atMost39, numberText}
+
+-- ---- the text of a number is that of the answer which has it
+edit-number : (a : EditAnswer) → numberText (numberOf (editMeans a)) ≡ outcomeText (editMeans a) []
+unfolding numberText givenText
+edit-number edit.Accepted = refl
+edit-number edit.Empty = refl
+edit-number edit.Full = refl
+edit-number edit.BadCut = refl
+edit-number edit.DropsPrimary = refl
+edit-number edit.NothingStands = refl
+
+refusal-number : (why : Refusal) → numberText (refusalNumber why) ≡ noText (refusalNumber why)
+unfolding numberText refusalNumber
+refusal-number why.Unreadable = refl
+refusal-number why.NoRecord = refl
+refusal-number why.ManualFocus = refl
+refusal-number why.BadRecord = refl
+refusal-number why.PositionUnplaced = refl
+refusal-number why.NamesUnplaced = refl
+
+load-number : (a : FocusAnswer) → numberText (numberOf (loadMeans a)) ≡ outcomeText (loadMeans a) []
+unfolding numberText givenText loadMeans
+load-number load-answer.Accepted = refl
+load-number (load-answer.Refused why) = refusal-number why
 
 module _ {o o₁ : List ℕ} {a a₁ : ℕ} where
   -- ---- a number
-  pub outcome-ok : (n : ℕ) → n ≡ 0 → Put o a okText o₁ a₁ → Puts o a (outcomeText (numbered n []) []) 14 o₁ a₁
-  unfolding givenText
+  pub outcome-ok : (n : ℕ) → n ≡ 0 → Put o a okText o₁ a₁ → Puts o a (numberText n) 14 o₁ a₁
+  unfolding numberText
   outcome-ok n e p = rw (eq-eqb n 0 e) (p, omega arith)
 
-  pub outcome-no : (n : ℕ) → (n ≡ 0 → ⊥) → Puts o a (noText n) 14 o₁ a₁ → Puts o a (outcomeText (numbered n []) []) 14 o₁ a₁
+  pub outcome-no : (n : ℕ) → (n ≡ 0 → ⊥) → Puts o a (noText n) 14 o₁ a₁ → Puts o a (numberText n) 14 o₁ a₁
+  unfolding numberText
   outcome-no n e p = rw (ne-eqb n 0 e) p
 
   -- ---- a listing
@@ -82,9 +113,9 @@ module _ {o o₁ : List ℕ} {a a₁ : ℕ} where
   contents-yes r e h p = rw e (at-most (rw (min-eq-left h) at p) (omega arith))
 
   -- ---- cut, turn, mirror and back
-  pub edit-text : (e : Edited) (n : ℕ) → n ≡ editNumber (e .answer) → Puts o a (outcomeText (numbered n []) []) 14 o₁ a₁
+  pub edit-text : (e : Edited) (n : ℕ) → n ≡ numberOf (editMeans (e .answer)) → Puts o a (numberText n) 14 o₁ a₁
       → Puts o a (answerText (afterEdit (editedMeans e) .0)) mostText o₁ a₁
-  edit-text e n f p = at-most (rw f at p) (omega arith)
+  edit-text e n f p = at-most (rw (f, edit-number (e .answer)) at p) (omega arith)
 
 -- ---- the numbers of a head
 pub head-is : (l : ListHead) (m n : ℕ) → m ≡ modeNumber (l .mode) → n ≡ originNumber (l .origin)
@@ -93,26 +124,26 @@ unfolding headNumbers
 head-is l m n e f = rw (e, f)
 
 -- ---- few points, few tags
-few-listed : (s : Sheet) (f : Size) (m : ℕ) → usable s ≡ true → fewPoints (cond (isShort s m) (refused 13) (accepted (headNumbers (headIn f s))))
+most-listed : (s : Sheet) (f : Size) (m : ℕ) → usable s ≡ true → atMost39 (cond (isShort s m) (refused 13) (accepted (headNumbers (headIn f s))))
 unfolding headNumbers headIn listCount listIndex listing
-few-listed s f m h =
+most-listed s f m h =
     let c = usable-told s h in
-    by-cond fewPoints (isShort s m) (λ e. tt)
+    by-cond atMost39 (isShort s m) (λ e. tt)
     (λ e. (omega (arith, c .points, listed-length s (s .count)), omega (arith, c .points, c .primary, listed-length s (s .primary))))
 
-pub few-list : (s : Sheet) (m : ℕ) (x : ListAnswer) → listMeans x ≡ listOutcome s m → fewPoints (listMeans x)
+pub most-list : (s : Sheet) (m : ℕ) (x : ListAnswer) → listMeans x ≡ listOutcome s m → atMost39 (listMeans x)
 unfolding listOutcome
-few-list s m x e = rw e (by-cond fewPoints (usable s) (few-listed s (presentFrame s) m) (λ h. tt))
+most-list s m x e = rw e (by-cond atMost39 (usable s) (most-listed s (presentFrame s) m) (λ h. tt))
 
-pub few-fit : (s : Sheet) (box : Size) (m : ℕ) (x : ListAnswer) → listMeans x ≡ fitOutcome s box m → fewPoints (listMeans x)
+pub most-fit : (s : Sheet) (box : Size) (m : ℕ) (x : ListAnswer) → listMeans x ≡ fitOutcome s box m → atMost39 (listMeans x)
 unfolding fitOutcome
-few-fit s box m x e =
+most-fit s box m x e =
     rw e
-    (by-cond fewPoints (usable s) (λ h. by-cond fewPoints (hasZeroSide box) (λ z. tt) (λ z. few-listed s box m h)) (λ h. tt))
+    (by-cond atMost39 (usable s) (λ h. by-cond atMost39 (hasZeroSide box) (λ z. tt) (λ z. most-listed s box m h)) (λ h. tt))
 
-pub few-of-listed : (x : ListAnswer) (l : ListHead) → x ≡ Listed l → fewPoints (listMeans x) → (l .count ≤ 39) × (l .index ≤ 39)
+pub most-of-listed : (x : ListAnswer) (l : ListHead) → x ≡ Listed l → atMost39 (listMeans x) → (l .count ≤ 39) × (l .index ≤ 39)
 unfolding headNumbers
-few-of-listed x l e h = rw e at h
+most-of-listed x l e h = rw e at h
 
 kept-few : (o : ByteOrder) (s ts : List ℕ) → length (keptAmong o s ts) ≤ length ts
 unfolding keptAmong
@@ -148,13 +179,13 @@ module _ {o o₁ : List ℕ} {a a₁ : ℕ} (s : Sheet) where
   answered-fit box x z ws ez ex ew p = let q = rw (ex, ew, ez) at p in record { left = refl; put = q .0; short = q .1 }
 
   pub answered-load : (r : Loaded) (block model bl md : List ℕ) (raw picture : OptionalSize) (n : ℕ) → bl ≡ block → md ≡ model
-      → loadedMeans r ≡ loadSheet s (focusOf bl raw picture md) → n ≡ loadNumber (r .answer) → Puts o a (outcomeText (numbered n []) []) 14 o₁ a₁
+      → loadedMeans r ≡ loadSheet s (focusOf bl raw picture md) → n ≡ numberOf (loadMeans (r .answer)) → Puts o a (numberText n) 14 o₁ a₁
       → Answers s (accepted (asks (load block raw picture model))) o a o₁ (record { sheet = r .sheet; at = a₁ })
   unfolding sheetStep
   answered-load r block model bl md raw picture n eb em er en p =
       let e : loadedMeans r ≡ loadSheet s (focusOf block raw picture model) = er ∙ rw (eb, em) in
-      let q = rw (en ∙ ap (λ (x : ℕ × Sheet). x .0) e) at p in
-      record { left = ap (λ (x : ℕ × Sheet). x .1) e; put = q .0; short = omega (arith, q .1) }
+      let q = rw (en, load-number (r .answer), ap (λ (x : Outcome (List ℕ) × Sheet). x .0) e) at p in
+      record { left = ap (λ (x : Outcome (List ℕ) × Sheet). x .1) e; put = q .0; short = omega (arith, q .1) }
 
 module _ {o o₁ : List ℕ} {a : ℕ} (s : Sheet) {r : Stepped} where
   pub answered-edit : (c : Call) (e : Edited) → afterEdit (editedMeans e) ≡ sheetStep s c

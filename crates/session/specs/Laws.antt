@@ -17,7 +17,7 @@ callLine call model block = lineOf (encoded call model block)
 
 -- a call that can be written on a line, of "at most 4,096 characters"
 pub record Writable (call : LineCall) (model block : List ℕ) : Type 0 where
-  pub can-be : Encodable call model block
+  pub encodable : Encodable call model block
   pub model-bytes : AreBytes model
   pub block-bytes : AreBytes block
   pub short : length (encoded call model block) ≤ 2048
@@ -36,8 +36,8 @@ pub record WasEncoded (line : List ℕ) : Type 0 where
   pub call : LineCall
   pub model : List ℕ
   pub block : List ℕ
-  pub can-be : Writable call model block
-  pub so : upperLine line ≡ callLine call model block
+  pub writable : Writable call model block
+  pub its-line : upperLine line ≡ callLine call model block
   pub spells : spelled line ≡ accepted (spelling call model block)
 
 -- no other line spells anything: 14, "call line malformed"

@@ -17,13 +17,13 @@ ghost use Rattle.reading.specs.Outcome.{refused, accepted};
 ghost use Rattle.sheet.specs.Listing.{listMeans, headNumbers};
 ghost use Rattle.sheet.specs.Sheet.{editedMeans};
 ghost use Rattle.journal.specs.Calls.{load, list, fit, back};
-ghost use Rattle.journal.specs.SheetCalls.{numbered, afterEdit};
+ghost use Rattle.journal.specs.SheetCalls.{afterEdit};
 ghost use Rattle.journal.specs.Journal.{cut};
 ghost use Rattle.calls.specs.Format.{modelPart, blockPart};
 ghost use Rattle.session.specs.Lines.{spelled, spelledIn, contents, asks, lentBuffer};
 ghost use Rattle.session.specs.Texts.{givenText, outcomeText, answerText};
 ghost use Rattle.session.specs.Answering.{mostText, Answers};
-ghost use Rattle.session.specs.Inside.{fewPoints};
+ghost use Rattle.session.specs.Inside.{atMost39, numberText};
 
 // A sheet after a line, and the place after its answer.
 pub struct Stepped {
@@ -31,9 +31,9 @@ pub struct Stepped {
     pub at: usize,
 }
 
-// The line of a call that ends with one of 01's numbers: 0 is accepted.
+// The line of a call whose answer has this number, 0 where it is accepted.
 fn put_outcome(out: &mut [u8], at: usize, n: u32) -> usize
-    ensures { λ r. ⌜ Puts (now (out .entry)) at (outcomeText (numbered n []) []) 14 (now (out .exit)) r ⌝ }
+    ensures { λ r. ⌜ Puts (now (out .entry)) at (numberText n) 14 (now (out .exit)) r ⌝ }
 {
     if n == 0 {
         return answers::put_ok(out, at);
@@ -71,7 +71,7 @@ fn put_listing(out: &mut [u8], at: usize, l: ListHead, words: &[u32]) -> usize
 
 // The lines of what list or fit answers.
 fn put_list(out: &mut [u8], at: usize, answer: ListAnswer, words: &[u32]) -> usize
-    requires { ⌜ fewPoints (listMeans answer) ⌝ }
+    requires { ⌜ atMost39 (listMeans answer) ⌝ }
     ensures { λ r. ⌜ Puts (now (out .entry)) at (outcomeText (listMeans answer) (now (words .entry))) mostText (now (out .exit)) r ⌝ }
 {
     match answer {
@@ -132,7 +132,7 @@ fn answer_load(
 ) -> Stepped
     ensures { λ r. ⌜ Answers sheet (accepted (asks (load (blockPart (now (b .entry))) raw picture (modelPart (now (b .entry)))))) (now (out .entry)) at (now (out .exit)) r ⌝ }
 {
-    let done = sheet.load(calls::block_of(b), raw, picture, calls::model_of(b));
+    let done = sheet.load(calls::block_part(b), raw, picture, calls::model_part(b));
     let answer = done.answer;
     let next = put_outcome(out, at, placing::load::load_number(answer));
     let after = done.sheet;
@@ -187,7 +187,7 @@ fn answer_bytes(sheet: Sheet, b: &[u8], out: &mut [u8], at: usize) -> Stepped
         Call::Back => after_edit(sheet.back(), out, at),
         Call::ListPoints => answer_list(sheet, out, at),
         Call::Fit { size } => answer_fit(sheet, size, out, at),
-        Call::Contents => answer_contents(sheet, calls::contents_block(b), out, at),
+        Call::Contents => answer_contents(sheet, calls::contents_part(b), out, at),
     }
 }
 

@@ -1,12 +1,14 @@
 -- A usable sheet's counts, and the refusals that cut, turn and mirror share, by the tests of the code. Assumes nothing.
 use Prim.Native.Nat.{ℕ, _<_, _≤_}
 use mathlib.Core.Bool.{Bool, true, false, not}
+use mathlib.Core.List.{List}
 use mathlib.Core.Path.{_≡_, sym, _∙_}
 use lib.Dec.{leb, ltb}
 use borrow.Author.Tests.{ltb-true, lt-ltb, le-ltb, leb-true, not-true, not-false}
 use Rattle.laws.proofs.Tests.{both}
+use Rattle.reading.specs.Outcome.{Outcome}
 use Rattle.sheet.specs.declared.Sheet.{Sheet}
-use Rattle.sheet.specs.Sheet.{leaves, usable, ifOpen}
+use Rattle.sheet.specs.Sheet.{keptBy, usable, ifOpen}
 
 -- what the test usable tells
 pub record Counts (s : Sheet) : Type 0 where
@@ -31,12 +33,12 @@ module _ (s : Sheet) (r : Bool) (e : r ≡ usable s) where
   pub counts : not r ≡ false → Counts s
   counts n = usable-told s (sym e ∙ not-false r n)
 
-  module _ (x : ℕ × Sheet) where
-    pub when-empty : not r ≡ true → leaves 7 s ≡ ifOpen s x
+  module _ (x : Outcome (List ℕ) × Sheet) where
+    pub when-empty : not r ≡ true → keptBy 7 s ≡ ifOpen s x
     unfolding ifOpen
     when-empty n = rw (← e, not-true r n)
 
-    pub when-full : not r ≡ false → 64 ≤ s .standing → leaves 8 s ≡ ifOpen s x
+    pub when-full : not r ≡ false → 64 ≤ s .standing → keptBy 8 s ≡ ifOpen s x
     unfolding ifOpen
     when-full n a = rw (← e, not-false r n, le-ltb (s .standing) 64 a)
 

@@ -1,13 +1,15 @@
 -- 01, 'Numbers returned': how an edit or back ends.
 use Prim.Native.Nat.{ℕ}
+use mathlib.Core.List.{List, []}
+use Rattle.reading.specs.Outcome.{Outcome, refused, accepted}
 use Rattle.sheet.specs.declared.edits.EditAnswer.{EditAnswer}
 use Rattle.sheet.specs.declared.edits.EditAnswer.the-variants.{Accepted, Empty, Full, BadCut, DropsPrimary, NothingStands}
 
--- 01's number for each way in which an edit or back ends, 0 for accepted
-abbrev pub editNumber : EditAnswer → ℕ
-editNumber Accepted = 0
-editNumber Empty = 7
-editNumber Full = 8
-editNumber BadCut = 9
-editNumber DropsPrimary = 10
-editNumber NothingStands = 11
+-- what the code's answer means: accepted, with no numbers to give, or refused by 01's number
+abbrev pub editMeans : EditAnswer → Outcome (List ℕ)
+editMeans Accepted = accepted []
+editMeans Empty = refused 7
+editMeans Full = refused 8
+editMeans BadCut = refused 9
+editMeans DropsPrimary = refused 10
+editMeans NothingStands = refused 11

@@ -7,8 +7,7 @@ use lib.ListN.{getD}
 use Rattle.reading.specs.declared.geometry.Size.{Size}
 use Rattle.reading.specs.declared.geometry.Point.{Point}
 use Rattle.placing.specs.declared.focus.FocusPoint.{FocusPoint}
-use Rattle.placing.specs.Fit.{pointFits, by}
-use Rattle.placing.specs.Fit.{swapped}
+use Rattle.placing.specs.Fit.{pointFits, by, swapped}
 use Rattle.sheet.specs.declared.edits.Edit.{Edit}
 use Rattle.sheet.specs.declared.edits.Edit.the-variants.{Turn, Mirror, Cut}
 use Rattle.sheet.specs.declared.edits.Carried.{Carried}
@@ -58,9 +57,9 @@ moved Mirror q =
     record { listed = q .listed; point = mirroredPoint (q .frame) (q .point); frame = q .frame }
 moved (Cut l t w h) q = cutPoint l t w h q
 
--- a cut that does not have "a zero side" nor "passes the present frame": the sums are exact
-unfoldable pub cutPasses : ℕ → ℕ → ℕ → ℕ → Size → Bool
-cutPasses l t w h f =
+-- a cut that neither "has a zero side" nor "passes the present frame": the sums are exact
+unfoldable pub isGoodCut : ℕ → ℕ → ℕ → ℕ → Size → Bool
+isGoodCut l t w h f =
     not (eqb w 0) && (not (eqb h 0) && (leb (l + w) (f .width) && leb (t + h) (f .height)))
 
 -- an edit in five words: its kind, 0 for a turn, 1 for a mirror, 2 for a cut, and a cut's numbers

@@ -1,7 +1,7 @@
 -- 01, "Sheet": what load, cut, turn, mirror and back answer and leave, for every sheet.
 use Prim.Native.Nat.{ℕ, _+_, _-_, _*_}
 use mathlib.Core.Bool.{Bool, true, false, _&&_, cond}
-use mathlib.Core.List.{List}
+use mathlib.Core.List.{List, []}
 use lib.Dec.{leb, ltb, eqb}
 use lib.ListN.{getD, length, replicate}
 use lib.Seq.{sets}
@@ -10,7 +10,7 @@ use Rattle.reading.specs.declared.geometry.Size.{Size}
 use Rattle.reading.specs.declared.focus.FocusAreaMode.the-variants.{NoMode}
 use Rattle.placing.specs.declared.load.FocusOrigin.the-variants.{Recorded}
 use Rattle.placing.specs.Load.{Focus, noPoint}
-use Rattle.placing.specs.Laid.{places, loadNumber}
+use Rattle.placing.specs.Laid.{places, loadMeans}
 use Rattle.sheet.specs.declared.edits.Edit.{Edit}
 use Rattle.sheet.specs.declared.edits.Edit.the-variants.{Turn, Mirror, Cut}
 use Rattle.sheet.specs.declared.edits.Carried.{Carried}
@@ -18,19 +18,23 @@ use Rattle.sheet.specs.declared.Sheet.{Sheet}
 use Rattle.sheet.specs.declared.Edited.{Edited}
 use Rattle.sheet.specs.declared.Loaded.{Loaded}
 use Rattle.placing.specs.Fit.{by}
-use Rattle.sheet.specs.Answer.{editNumber}
-use Rattle.sheet.specs.Place.{wordsOf, moved, placed, cutPasses}
+use Rattle.sheet.specs.Answer.{editMeans}
+use Rattle.sheet.specs.Place.{wordsOf, moved, placed, isGoodCut}
 
--- how a call ends that gives nothing but a sheet: 01's number, 0 for accepted, and the sheet that it leaves
-abbrev pub leaves : ℕ → Sheet → ℕ × Sheet
-leaves n s = (n, s)
+-- how a call ends that gives nothing but a sheet. Accepted, it leaves this one
+abbrev pub leaves : Sheet → Outcome (List ℕ) × Sheet
+leaves s = (accepted [], s)
 
--- what the code's values mean: 01's number for the answer, and the sheet
-abbrev pub editedMeans : Edited → ℕ × Sheet
-editedMeans r = leaves (editNumber (r .answer)) (r .sheet)
+-- refused by one of 01's numbers: "sheet kept"
+abbrev pub keptBy : ℕ → Sheet → Outcome (List ℕ) × Sheet
+keptBy n s = (refused n, s)
 
-abbrev pub loadedMeans : Loaded → ℕ × Sheet
-loadedMeans r = leaves (loadNumber (r .answer)) (r .sheet)
+-- what the code's values mean: that of the answer, and the sheet
+abbrev pub editedMeans : Edited → Outcome (List ℕ) × Sheet
+editedMeans r = (editMeans (r .answer), r .sheet)
+
+abbrev pub loadedMeans : Loaded → Outcome (List ℕ) × Sheet
+loadedMeans r = (loadMeans (r .answer), r .sheet)
 
 -- "the fresh sheet, which is empty"
 unfoldable pub freshSheet : Sheet
@@ -63,9 +67,9 @@ loadedSheet f =
     }
 
 -- "accepted, it replaces sheet and edits"; refused, "sheet kept"
-unfoldable pub loadSheet : Sheet → Outcome Focus → ℕ × Sheet
-loadSheet s (refused n) = leaves n s
-loadSheet s (accepted f) = leaves 0 (loadedSheet f)
+unfoldable pub loadSheet : Sheet → Outcome Focus → Outcome (List ℕ) × Sheet
+loadSheet s (refused n) = keptBy n s
+loadSheet s (accepted f) = leaves (loadedSheet f)
 
 -- a sheet that every call but load takes for a loaded one. Any other is empty to them: a fresh one, and one made by hand
 -- whose counts pass its places or whose primary is no point
@@ -101,32 +105,35 @@ unfoldable pub addEdit : Sheet → Edit → Sheet
 addEdit s e = withEdits s (sets (s .edits) (s .standing * 5) (wordsOf e)) (s .standing + 1)
 
 -- what cut, turn and mirror test first: 7 "sheet is empty", 8 "64 edits stand"
-unfoldable pub ifOpen : Sheet → ℕ × Sheet → ℕ × Sheet
-ifOpen s r = cond (usable s) (cond (ltb (s .standing) 64) r (leaves 8 s)) (leaves 7 s)
+unfoldable pub ifOpen : Sheet → Outcome (List ℕ) × Sheet → Outcome (List ℕ) × Sheet
+ifOpen s r = cond (usable s) (cond (ltb (s .standing) 64) r (keptBy 8 s)) (keptBy 7 s)
 
-unfoldable pub turnSheet : Sheet → ℕ × Sheet
-turnSheet s = ifOpen s (leaves 0 (addEdit s Turn))
+-- "a turn takes a sheet and gives back the sheet turned clockwise"
+unfoldable pub turnSheet : Sheet → Outcome (List ℕ) × Sheet
+turnSheet s = ifOpen s (leaves (addEdit s Turn))
 
-unfoldable pub mirrorSheet : Sheet → ℕ × Sheet
-mirrorSheet s = ifOpen s (leaves 0 (addEdit s Mirror))
+-- "Mirror"
+unfoldable pub mirrorSheet : Sheet → Outcome (List ℕ) × Sheet
+mirrorSheet s = ifOpen s (leaves (addEdit s Mirror))
 
 -- 10, "cut would drop the primary": whether the primary is listed after one more edit
 unfoldable pub keepsPrimary : Sheet → Edit → Bool
 keepsPrimary s e = moved e (placedAt s (s .primary)) .listed
 
-unfoldable pub cutSheet : Sheet → ℕ → ℕ → ℕ → ℕ → ℕ × Sheet
+-- "Cut left, top, width, height": 9 "cut has a zero side or passes the present frame", then 10
+unfoldable pub cutSheet : Sheet → ℕ → ℕ → ℕ → ℕ → Outcome (List ℕ) × Sheet
 cutSheet s l t w h =
     ifOpen s
-    (cond (cutPasses l t w h (presentFrame s))
+    (cond (isGoodCut l t w h (presentFrame s))
     (cond (keepsPrimary s (Cut l t w h))
-    (leaves 0 (addEdit s (Cut l t w h)))
-    (leaves 10 s))
-    (leaves 9 s))
+    (leaves (addEdit s (Cut l t w h)))
+    (keptBy 10 s))
+    (keptBy 9 s))
 
 -- "Back removes the last edit": 7 "sheet is empty", 11 "no edit stands"
-unfoldable pub backSheet : Sheet → ℕ × Sheet
+unfoldable pub backSheet : Sheet → Outcome (List ℕ) × Sheet
 backSheet s =
     cond (usable s)
-    (cond (eqb (s .standing) 0) (leaves 11 s)
-    (leaves 0 (withEdits s (s .edits) (s .standing - 1))))
-    (leaves 7 s)
+    (cond (eqb (s .standing) 0) (keptBy 11 s)
+    (leaves (withEdits s (s .edits) (s .standing - 1))))
+    (keptBy 7 s)

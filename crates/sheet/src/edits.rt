@@ -6,8 +6,9 @@ ghost use mathlib.Core.Path.{_≡_};
 ghost use mathlib.Core.Bool.{_&&_};
 ghost use Prim.Native.Nat.{_+_, _-_, _<_, _≤_, min};
 ghost use lib.Dec.{leb};
-ghost use Rattle.sheet.specs.Answer.{editNumber};
-ghost use Rattle.sheet.specs.Place.{turnedPoint, mirroredPoint, shiftedPoint, staysOn, cutPoint, moved, wordsOf, editAt, placed, cutPasses};
+ghost use Rattle.reading.specs.Outcome.{numberOf};
+ghost use Rattle.sheet.specs.Answer.{editMeans};
+ghost use Rattle.sheet.specs.Place.{turnedPoint, mirroredPoint, shiftedPoint, staysOn, cutPoint, moved, wordsOf, editAt, placed, isGoodCut};
 
 // A clockwise quarter rotation, an exchange of left and right, or a cut to a rectangle.
 pub enum Edit {
@@ -21,7 +22,7 @@ pub enum Edit {
     },
 }
 
-// How cut, turn, mirror and back end: 01's numbers 0 and 7 to 11, in this order.
+// How cut, turn, mirror and back end: accepted, or refused by 01's numbers 7 to 11, in this order.
 pub enum EditAnswer {
     Accepted,
     Empty,
@@ -40,7 +41,7 @@ pub struct Carried {
 
 // 01's number for how cut, turn, mirror and back end, 0 for accepted.
 pub fn edit_number(answer: EditAnswer) -> u32
-    ensures { λ r. ⌜ r ≡ editNumber answer ⌝ }
+    ensures { λ r. ⌜ r ≡ numberOf (editMeans answer) ⌝ }
 {
     match answer {
         EditAnswer::Accepted => 0,
@@ -186,15 +187,15 @@ pub fn move_by(edit: Edit, place: Carried) -> Carried
 }
 
 // Whether `side` pixels from `start` on end within `limit`.
-fn span_passes(start: u32, side: u32, limit: u32) -> bool
+fn span_inside(start: u32, side: u32, limit: u32) -> bool
     ensures { λ r. ⌜ r ≡ leb (start + side) limit ⌝ }
 {
     start as u64 + side as u64 <= limit as u64
 }
 
-// Whether a cut has no zero side and stays inside the frame.
-pub fn cut_passes(left: u32, top: u32, width: u32, height: u32, frame: Size) -> bool
-    ensures { λ r. ⌜ r ≡ cutPasses left top width height frame ⌝ }
+// Whether a cut has no zero side and does not pass the frame.
+pub fn is_good_cut(left: u32, top: u32, width: u32, height: u32, frame: Size) -> bool
+    ensures { λ r. ⌜ r ≡ isGoodCut left top width height frame ⌝ }
 {
     if width == 0 {
         return false;
@@ -202,7 +203,7 @@ pub fn cut_passes(left: u32, top: u32, width: u32, height: u32, frame: Size) -> 
     if height == 0 {
         return false;
     }
-    span_passes(left, width, frame.width) && span_passes(top, height, frame.height)
+    span_inside(left, width, frame.width) && span_inside(top, height, frame.height)
 }
 
 // An edit in five words.

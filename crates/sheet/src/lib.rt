@@ -13,7 +13,7 @@ use reading::geometry::Size;
 ghost use mathlib.Core.Path.{_≡_};
 ghost use Prim.Native.Nat.{_<_, _≤_};
 ghost use Rattle.placing.specs.Focus.{focusOf};
-ghost use Rattle.sheet.specs.Answer.{editNumber};
+ghost use Rattle.sheet.specs.Answer.{editMeans};
 ghost use Rattle.sheet.specs.Sheet.{leaves, editedMeans, loadedMeans, freshSheet, loadSheet, usable, placedAt, addEdit, ifOpen, turnSheet, mirrorSheet, cutSheet, backSheet};
 
 pub mod edits; // an edit, and the place of one point after some edits
@@ -162,7 +162,7 @@ impl Sheet {
 
     // The sheet as it is, after a call that ends so.
     fn ends(self, answer: EditAnswer) -> Edited
-        ensures { λ r. ⌜ editedMeans r ≡ leaves (editNumber answer) self ⌝ }
+        ensures { λ r. ⌜ editedMeans r ≡ (editMeans answer, self) ⌝ }
     {
         Edited {
             answer,
@@ -172,7 +172,7 @@ impl Sheet {
 
     // One more edit, where the sheet is not empty and has room for it.
     fn add(self, edit: Edit) -> Edited
-        ensures { λ r. ⌜ editedMeans r ≡ ifOpen self (leaves 0 (addEdit self edit)) ⌝ }
+        ensures { λ r. ⌜ editedMeans r ≡ ifOpen self (leaves (addEdit self edit)) ⌝ }
     {
         if !self.is_usable() {
             return self.ends(EditAnswer::Empty);
@@ -211,7 +211,7 @@ impl Sheet {
         let primary = self.primary;
         let place = self.place_at(primary);
         let frame = place.frame;
-        if !crate::edits::cut_passes(left, top, width, height, frame) {
+        if !crate::edits::is_good_cut(left, top, width, height, frame) {
             return self.ends(EditAnswer::BadCut);
         }
         let edit = Edit::Cut {

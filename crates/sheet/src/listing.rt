@@ -19,7 +19,7 @@ pub struct ListHead {
     pub origin: FocusOrigin,
 }
 
-// How list and fit end: 01's numbers 7, 12, 13 and 0, in this order.
+// How list and fit end: refused by 01's numbers 7, 12 and 13, in this order, or listed.
 pub enum ListAnswer {
     Empty,
     ZeroBox,
@@ -51,7 +51,7 @@ fn put_point(out: &mut [u32], at: usize, point: FocusPoint)
     out[at + 2] = center.y;
     out[at + 3] = size.width;
     out[at + 4] = size.height;
-    out[at + 5] = placing::focus::in_focus_number(point);
+    out[at + 5] = placing::focus::in_focus_of(point);
 }
 
 // Writes the first n points at the buffer's front, six numbers each. Where there are not so many, or no room for them, nothing is

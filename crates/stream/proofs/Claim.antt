@@ -23,12 +23,12 @@ use Rattle.session.proofs.Claim.{lines-claim}
 use Rattle.session.proofs.Laws.{line-cut}
 use Rattle.script.specs.Script.{linesFrom, scriptText}
 use Rattle.stream.specs.declared.Fed.{Fed}
-use Rattle.stream.specs.Stream.{lineRoom, kept, heldAfterPiece, sheetAfterPiece, pieceText, lastText, Taken, Feeds}
+use Rattle.stream.specs.Stream.{lineRoom, heldWith, heldAfterPiece, sheetAfterPiece, pieceText, lastText, Taken, Feeds}
 use Rattle.stream.specs.Claim.{between, FedCalls, none-yet, one-more, StreamClaim, OneOutcome}
 use Rattle.stream.proofs.Pieces.{held-app, sheet-app, text-app, held-nil, sheet-nil, text-nil, used-stop}
 
 -- ---- a script in one piece
-take-kept : (c : ℕ) (l : List ℕ) → take lineRoom (l ++ (c ∷ [])) ≡ kept (take lineRoom l) c
+take-kept : (c : ℕ) (l : List ℕ) → take lineRoom (l ++ (c ∷ [])) ≡ heldWith (take lineRoom l) c
 take-kept c l =
     ⊎-elim
     (λ (h : length l < lineRoom). rw (take-all lineRoom l (omega arith)))

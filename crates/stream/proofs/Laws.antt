@@ -22,7 +22,7 @@ use Rattle.session.specs.declared.Stepped.{Stepped}
 use Rattle.session.specs.Lines.{spelled}
 use Rattle.session.specs.Answering.{sheetText, sheetNext, mostText, Answers}
 use Rattle.stream.specs.declared.Fed.{Fed}
-use Rattle.stream.specs.Stream.{lineRoom, kept, heldAfterPiece, lineAfterPiece, sheetAfterPiece, pieceText, usedInLine, usedOf, lastText, Holding, Taken, Feeds, Ends}
+use Rattle.stream.specs.Stream.{lineRoom, heldWith, heldAfterPiece, lineAfterPiece, sheetAfterPiece, pieceText, usedInLine, usedOf, lastText, Holding, Taken, Feeds, Ends}
 use Rattle.stream.specs.Inside.{HeldIn, CharKept, CharsTaken, RunTaken, LineTaken}
 use Rattle.stream.proofs.Pieces.{held-app, line-app, sheet-app, text-app, held-feed, line-feed, sheet-feed, text-feed, used-feed, held-char, line-char, sheet-char, text-char, used-char, held-nil, line-nil, sheet-nil, text-nil, used-nil, used-room, used-stop, line-long}
 
@@ -42,7 +42,7 @@ counted : (l h : List ℕ) (n : ℕ) → take n l ≡ h → n ≤ length l → n
 counted l h n e f = sym (length-take-le n l f) ∙ ap length e
 
 module _ (l : List ℕ) (n b : ℕ) (e : length l ≡ lineRoom) where
-  take-kept : n < length l → take (n + 1) (set l n b) ≡ kept (take n l) b
+  take-kept : n < length l → take (n + 1) (set l n b) ≡ heldWith (take n l) b
   take-kept f =
       let g : length (take n l ++ (b ∷ [])) ≤ lineRoom = omega (arith, e, length-append (take n l) (b ∷ []), length-take-le n l (omega arith)) in
       rw (add-one, take-suc-set l n b (omega arith), take-all lineRoom (take n l ++ (b ∷ [])) g)
@@ -52,10 +52,10 @@ module _ (l : List ℕ) (n b : ℕ) (e : length l ≡ lineRoom) where
       record {
         line-after = refl;
         held-after = take-kept f;
-        held-count = counted (set l n b) (kept (take n l) b) (n + 1) (take-kept f) (omega (arith, length-set l n b));
+        held-count = counted (set l n b) (heldWith (take n l) b) (n + 1) (take-kept f) (omega (arith, length-set l n b));
       }
 
-  take-full : length l ≤ n → take n l ≡ kept (take n l) b
+  take-full : length l ≤ n → take n l ≡ heldWith (take n l) b
   take-full f =
       rw (take-all n l (omega arith), take-append-le lineRoom l (b ∷ []) (omega arith), take-all lineRoom l (omega arith))
 
@@ -64,7 +64,7 @@ module _ (l : List ℕ) (n b : ℕ) (e : length l ≡ lineRoom) where
       record {
         line-after = sym (set-out l n b (omega arith));
         held-after = take-full f;
-        held-count = counted l (kept (take n l) b) n (take-full f) (omega arith);
+        held-count = counted l (heldWith (take n l) b) n (take-full f) (omega arith);
       }
 
 -- ---- characters `t`, and `u` from what they left
@@ -149,7 +149,7 @@ module _ {l₀ h t l : List ℕ} {n : ℕ} (q : CharsTaken l₀ h t l n) where
         rw (append-assoc t (b ∷ []) u, length-append t (b ∷ []), k .held-after)
         (q .uses-all room at s (b ∷ u) ∙
         rw (used-char room s (take n l) at b u other)
-        (sym (add-assoc (length t) 1 (usedInLine room s (kept (take n l) b) at u))))
+        (sym (add-assoc (length t) 1 (usedInLine room s (heldWith (take n l) b) at u))))
 
     char-more : CharsTaken l₀ h (t ++ (b ∷ [])) l₁ n₁
     char-more =

@@ -13,7 +13,7 @@ use Rattle.laws.proofs.Tests.{by-bool}
 use Rattle.sheet.specs.declared.Sheet.{Sheet}
 use Rattle.session.specs.Lines.{spelled}
 use Rattle.session.specs.Answering.{sheetText, sheetNext, mostText}
-use Rattle.stream.specs.Stream.{kept, heldAfterPiece, lineAfterPiece, sheetAfterPiece, pieceText, usedInLine, usedOf}
+use Rattle.stream.specs.Stream.{heldWith, heldAfterPiece, lineAfterPiece, sheetAfterPiece, pieceText, usedInLine, usedOf}
 
 pub held-app : (h t u : List ℕ) → heldAfterPiece h (t ++ u) ≡ heldAfterPiece (heldAfterPiece h t) u
 unfolding heldAfterPiece
@@ -21,7 +21,7 @@ held-app h [] u = refl
 held-app h (c ∷ t) u =
     ⊎-elim
     (λ (e : eqb c 10 ≡ true). rw e (held-app [] t u))
-    (λ (e : eqb c 10 ≡ false). rw e (held-app (kept h c) t u))
+    (λ (e : eqb c 10 ≡ false). rw e (held-app (heldWith h c) t u))
     (by-bool (eqb c 10))
 
 pub line-app : (l h t u : List ℕ) → lineAfterPiece l h (t ++ u) ≡ lineAfterPiece (lineAfterPiece l h t) (heldAfterPiece h t) u
@@ -31,7 +31,7 @@ line-app l h (c ∷ t) u =
     ⊎-elim
     (λ (e : eqb c 10 ≡ true). rw e (line-app l [] t u))
     (λ (e : eqb c 10 ≡ false).
-    rw e (line-app (set l (length h) c) (kept h c) t u))
+    rw e (line-app (set l (length h) c) (heldWith h c) t u))
     (by-bool (eqb c 10))
 
 pub sheet-app : (s : Sheet) (h t u : List ℕ) → sheetAfterPiece s h (t ++ u) ≡ sheetAfterPiece (sheetAfterPiece s h t) (heldAfterPiece h t) u
@@ -40,7 +40,7 @@ sheet-app s h [] u = refl
 sheet-app s h (c ∷ t) u =
     ⊎-elim
     (λ (e : eqb c 10 ≡ true). rw e (sheet-app (sheetNext s (spelled h)) [] t u))
-    (λ (e : eqb c 10 ≡ false). rw e (sheet-app s (kept h c) t u))
+    (λ (e : eqb c 10 ≡ false). rw e (sheet-app s (heldWith h c) t u))
     (by-bool (eqb c 10))
 
 pub text-app : (s : Sheet) (h t u : List ℕ)
@@ -56,7 +56,7 @@ text-app s h (c ∷ t) u =
     (append-assoc (sheetText s (spelled h))
     (pieceText (sheetNext s (spelled h)) [] t)
     (pieceText (sheetAfterPiece (sheetNext s (spelled h)) [] t) (heldAfterPiece [] t) u)))))
-    (λ (e : eqb c 10 ≡ false). rw e (text-app s (kept h c) t u))
+    (λ (e : eqb c 10 ≡ false). rw e (text-app s (heldWith h c) t u))
     (by-bool (eqb c 10))
 
 -- ---- a line feed
@@ -82,7 +82,7 @@ unfolding pieceText
 text-feed s h = append-nil (sheetText s (spelled h))
 
 -- ---- another character
-pub held-char : (h : List ℕ) (b : ℕ) → (b ≡ 10 → ⊥) → heldAfterPiece h (b ∷ []) ≡ kept h b
+pub held-char : (h : List ℕ) (b : ℕ) → (b ≡ 10 → ⊥) → heldAfterPiece h (b ∷ []) ≡ heldWith h b
 unfolding heldAfterPiece
 held-char h b e = rw (ne-eqb b 10 e)
 
@@ -91,7 +91,7 @@ unfolding lineAfterPiece
 line-char l h b e = rw (ne-eqb b 10 e)
 
 pub used-char : (room : ℕ) (s : Sheet) (h : List ℕ) (at b : ℕ) (u : List ℕ) → (b ≡ 10 → ⊥)
-    → usedInLine room s h at (b ∷ u) ≡ 1 + usedInLine room s (kept h b) at u
+    → usedInLine room s h at (b ∷ u) ≡ 1 + usedInLine room s (heldWith h b) at u
 unfolding usedInLine
 used-char room s h at b u e = rw (ne-eqb b 10 e)
 
@@ -145,5 +145,5 @@ line-long l h [] = refl
 line-long l h (c ∷ t) =
     ⊎-elim
     (λ (e : eqb c 10 ≡ true). rw e (line-long l [] t))
-    (λ (e : eqb c 10 ≡ false). rw e (line-long (set l (length h) c) (kept h c) t ∙ length-set l (length h) c))
+    (λ (e : eqb c 10 ≡ false). rw e (line-long (set l (length h) c) (heldWith h c) t ∙ length-set l (length h) c))
     (by-bool (eqb c 10))

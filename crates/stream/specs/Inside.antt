@@ -9,7 +9,7 @@ use Rattle.sheet.specs.declared.Sheet.{Sheet}
 use Rattle.session.specs.Answering.{mostText}
 use Rattle.stream.specs.declared.Fed.{Fed}
 use Rattle.stream.specs.declared.Run.{Run}
-use Rattle.stream.specs.Stream.{lineRoom, kept, sheetAfterPiece, pieceText, usedInLine, usedOf, Holding, Taken}
+use Rattle.stream.specs.Stream.{lineRoom, heldWith, sheetAfterPiece, pieceText, usedInLine, usedOf, Holding, Taken}
 
 -- a line lent by `feed` or `last`, of which no more is held than it has
 abbrev pub HeldIn : List ℕ → ℕ → Type 0
@@ -18,8 +18,8 @@ HeldIn line held = (length line ≡ lineRoom) × (held ≤ lineRoom)
 -- one more character, `b`, is held
 pub record CharKept (line₀ : List ℕ) (held : ℕ) (b : ℕ) (line : List ℕ) (n : ℕ) : Type 0 where
   pub line-after : line ≡ set line₀ held b
-  pub held-after : take n line ≡ kept (take held line₀) b
-  pub held-count : n ≡ length (kept (take held line₀) b)
+  pub held-after : take n line ≡ heldWith (take held line₀) b
+  pub held-count : n ≡ length (heldWith (take held line₀) b)
 
 -- characters `t` of a line, none of them its feed: they change no sheet and are answered nothing, and no test for room stops them
 pub record CharsTaken (line₀ h t line : List ℕ) (n : ℕ) : Type 0 where

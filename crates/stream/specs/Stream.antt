@@ -19,31 +19,31 @@ abbrev pub lineRoom : ℕ
 lineRoom = 4097
 
 -- one more character of a line of which `h` is held
-abbrev pub kept : List ℕ → ℕ → List ℕ
-kept h c = take lineRoom (h ++ (c ∷ []))
+abbrev pub heldWith : List ℕ → ℕ → List ℕ
+heldWith h c = take lineRoom (h ++ (c ∷ []))
 
 -- what is held after a piece: a line ends at its line feed, 10, and then nothing is held
 unfoldable pub heldAfterPiece : List ℕ → List ℕ → List ℕ
 heldAfterPiece h [] = h
-heldAfterPiece h (c ∷ piece) = cond (eqb c 10) (heldAfterPiece [] piece) (heldAfterPiece (kept h c) piece)
+heldAfterPiece h (c ∷ piece) = cond (eqb c 10) (heldAfterPiece [] piece) (heldAfterPiece (heldWith h c) piece)
 
 -- the lent line after a piece: a character is stored behind what is held, unless the line is full, and all other places are kept
 unfoldable pub lineAfterPiece : List ℕ → List ℕ → List ℕ → List ℕ
 lineAfterPiece line h [] = line
 lineAfterPiece line h (c ∷ piece) =
-    cond (eqb c 10) (lineAfterPiece line [] piece) (lineAfterPiece (set line (length h) c) (kept h c) piece)
+    cond (eqb c 10) (lineAfterPiece line [] piece) (lineAfterPiece (set line (length h) c) (heldWith h c) piece)
 
 -- the sheet after a piece: each line that ends in it is one call
 unfoldable pub sheetAfterPiece : Sheet → List ℕ → List ℕ → Sheet
 sheetAfterPiece s h [] = s
 sheetAfterPiece s h (c ∷ piece) =
-    cond (eqb c 10) (sheetAfterPiece (sheetNext s (spelled h)) [] piece) (sheetAfterPiece s (kept h c) piece)
+    cond (eqb c 10) (sheetAfterPiece (sheetNext s (spelled h)) [] piece) (sheetAfterPiece s (heldWith h c) piece)
 
 -- what a piece is answered: each line that ends in it
 unfoldable pub pieceText : Sheet → List ℕ → List ℕ → List ℕ
 pieceText s h [] = []
 pieceText s h (c ∷ piece) =
-    cond (eqb c 10) (sheetText s (spelled h) ++ pieceText (sheetNext s (spelled h)) [] piece) (pieceText s (kept h c) piece)
+    cond (eqb c 10) (sheetText s (spelled h) ++ pieceText (sheetNext s (spelled h)) [] piece) (pieceText s (heldWith h c) piece)
 
 -- at the end of the input: "The last feed may be missing, and nothing after a last feed is no line."
 unfoldable pub lastText : Sheet → List ℕ → List ℕ
@@ -63,7 +63,7 @@ usedInLine room s h at (c ∷ piece) =
     cond (eqb c 10)
     (ifRoom room (at + length (sheetText s (spelled h)))
     (usedInLine room (sheetNext s (spelled h)) [] (at + length (sheetText s (spelled h))) piece))
-    (usedInLine room s (kept h c) at piece)
+    (usedInLine room s (heldWith h c) at piece)
 
 -- line by line, each only where there is room for its answer: else it stops before the line
 unfoldable pub usedOf : ℕ → Sheet → List ℕ → ℕ → List ℕ → ℕ

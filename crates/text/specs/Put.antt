@@ -14,6 +14,7 @@ capped n = min n 18446744073709551615
 pub record Put (before : List ℕ) (at : ℕ) (text : List ℕ) (after : List ℕ) (next : ℕ) : Type 0 where
   pub laid : after ≡ sets before at text
   pub place : next ≡ capped (at + length text)
+  -- a buffer has a usize of places: callers count on it
   pub counted : length before ≤ 18446744073709551615
 
 -- the same of a text of `most` characters at the most

@@ -1,7 +1,7 @@
 -- `put_each`: the loop's invariant is that the first i tags are put, 11 characters a tag at the most. Assumes nothing.
 use Rattle.text.specs.Put.{Puts}
 use Rattle.text.proofs.Laws as laws
-use Rattle.answers.specs.Answers.{space, nextAll}
+use Rattle.answers.specs.Answers.{space, spacedAll}
 use Rattle.answers.proofs.Lines.{numbered}
 use mathlib.Core.Path.{refl}
 use native.Mathlib.Omega.{arith}
@@ -11,20 +11,20 @@ use Rattle.answers.proofs.put_each.Statement.{statement}
 use Rattle.answers.proofs.put_each.Tie as tie
 
 abbrev Inv-loop : tie.InvT-loop
-Inv-loop out₀ at tags n after₀ i₀ t7 out after i = (i ≤ n) × Puts out₀ at (nextAll tags i) (i * 11) out after
+Inv-loop out₀ at tags n after₀ i₀ t7 out after i = (i ≤ n) × Puts out₀ at (spacedAll tags i) (i * 11) out after
 
 abbrev μ-loop : tie.MeasureT-loop
 μ-loop out₀ at tags n after₀ i₀ t7 out after i = n - i
 
 loop-holds : tie.Need-loop-holds Inv-loop μ-loop
-unfolding nextAll
+unfolding spacedAll
 loop-holds c = (omega arith, laws.rows-none _ _ _ (omega arith) (omega arith))
 
 slice-aggregate-put-pair : tie.Need-slice-aggregate-put-pair Inv-loop μ-loop
 slice-aggregate-put-pair c = search needs
 
-tag-at-requires : tie.Need-tag-at-requires Inv-loop μ-loop
-tag-at-requires c κs = tt
+nth-tag-requires : tie.Need-nth-tag-requires Inv-loop μ-loop
+nth-tag-requires c κs = tt
 
 cast-put-pair : tie.Need-cast-put-pair Inv-loop μ-loop
 cast-put-pair c = search needs
@@ -39,14 +39,14 @@ loop-less : tie.Need-loop-less Inv-loop μ-loop
 loop-less c = omega arith
 
 loop-again : tie.Need-loop-again Inv-loop μ-loop
-unfolding nextAll
-loop-again c = (omega arith, laws.rows-more (nextAll _) 11 _ (c .before .before .before .before .before .before .before .loop .inv .1) refl (numbered space (c .before .before .before .tag-at .ensures) (c .before .before .put-pair .ensures)))
+unfolding spacedAll
+loop-again c = (omega arith, laws.rows-more (spacedAll _) 11 _ (c .before .before .before .before .before .before .before .loop .inv .1) refl (numbered space (c .before .before .before .nth-tag .ensures) (c .before .before .put-pair .ensures)))
 
 same-length : tie.Need-same-length Inv-loop μ-loop
 same-length c = laws.put-same (c .before .loop .inv .1 .0)
 
 returns : tie.Need-returns Inv-loop μ-loop
-returns c = laws.rows-done (nextAll _) 11 _ (c .before .loop .inv .1) _ _ (omega arith) (omega (arith, c .before .before .before .before .pre))
+returns c = laws.rows-done (spacedAll _) 11 _ (c .before .loop .inv .1) _ _ (omega arith) (omega (arith, c .before .before .before .before .pre))
 
 pub put-each-spec : {M : Type 1} → statement M
 put-each-spec =
@@ -56,7 +56,7 @@ put-each-spec =
     μ-loop
     loop-holds
     slice-aggregate-put-pair
-    tag-at-requires
+    nth-tag-requires
     cast-put-pair
     put-pair-requires
     add-i

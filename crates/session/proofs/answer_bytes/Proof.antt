@@ -72,8 +72,8 @@ answer-fit-requires c κs = search needs
 enum-told-6 : tie.Need-enum-told-6
 enum-told-6 c = search needs
 
-contents-block-requires : tie.Need-contents-block-requires
-contents-block-requires c κs = search needs
+contents-part-requires : tie.Need-contents-part-requires
+contents-part-requires c κs = search needs
 
 answer-contents-requires : tie.Need-answer-contents-requires
 answer-contents-requires c κs = search needs
@@ -134,7 +134,7 @@ same-length-9 : tie.Need-same-length-9
 same-length-9 c = search needs
 
 returns-9 : tie.Need-returns-9
-returns-9 c = texts.by-call _ _ _ _ (c .before .before .before .before .before .enum-told6 .given .1) (c .before .before .before .before .before .before .before .call-of .ensures) (rw (c .before .before .before .before .contents-block .ensures) at (c .before .before .answer-contents .ensures))
+returns-9 c = texts.by-call _ _ _ _ (c .before .before .before .before .before .enum-told6 .given .1) (c .before .before .before .before .before .before .before .call-of .ensures) (rw (c .before .before .before .before .contents-part .ensures) at (c .before .before .answer-contents .ensures))
 
 pub answer-bytes-spec : {M : Type 1} → statement M
 answer-bytes-spec =
@@ -162,7 +162,7 @@ answer-bytes-spec =
     enum-known-size
     answer-fit-requires
     enum-told-6
-    contents-block-requires
+    contents-part-requires
     answer-contents-requires
     same-length
     returns

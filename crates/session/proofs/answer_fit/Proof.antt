@@ -14,7 +14,7 @@ fit-requires : tie.Need-fit-requires
 fit-requires c κs = search needs
 
 put-list-requires : tie.Need-put-list-requires
-put-list-requires c κs = texts.few-fit _ _ _ (c .before .before .before .before .fit .result) (c .before .before .before .before .fit .ensures .0)
+put-list-requires c κs = texts.most-fit _ _ _ (c .before .before .before .before .fit .result) (c .before .before .before .before .fit .ensures .0)
 
 same-length : tie.Need-same-length
 same-length c = search needs

@@ -14,7 +14,7 @@ list-requires : tie.Need-list-requires
 list-requires c κs = search needs
 
 put-list-requires : tie.Need-put-list-requires
-put-list-requires c κs = texts.few-list _ _ (c .before .before .before .before .list .result) (c .before .before .before .before .list .ensures .0)
+put-list-requires c κs = texts.most-list _ _ (c .before .before .before .before .list .result) (c .before .before .before .before .list .ensures .0)
 
 same-length : tie.Need-same-length
 same-length c = search needs

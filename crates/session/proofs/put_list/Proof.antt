@@ -28,7 +28,7 @@ enum-known-answer : tie.Need-enum-known-answer
 enum-known-answer c = search needs
 
 put-listing-requires : tie.Need-put-listing-requires
-put-listing-requires c κs = texts.few-of-listed _ _ (c .before .before .answer .given .1) (c .before .before .before .before .before .before .pre)
+put-listing-requires c κs = texts.most-of-listed _ _ (c .before .before .answer .given .1) (c .before .before .before .before .before .before .pre)
 
 same-length : tie.Need-same-length
 same-length c = search needs

@@ -1,5 +1,5 @@
 -- `load::no_points`: the definition, field by field. Assumes nothing.
-use Rattle.placing.specs.Laid.{loadNumber, laidOut}
+use Rattle.placing.specs.Laid.{loadMeans, laidOut}
 use borrow.Author.Needs.{needs}
 use Rattle.placing.proofs.load.no_points.Statement.{statement}
 use Rattle.placing.proofs.load.no_points.Tie as tie
@@ -8,7 +8,7 @@ no-places-requires : tie.Need-no-places-requires
 no-places-requires c κs = search needs
 
 returns : tie.Need-returns
-unfolding laidOut loadNumber
+unfolding laidOut loadMeans
 returns c = rw (c .no-places .ensures)
 
 pub no-points-spec : {M : Type 1} → statement M

@@ -20,8 +20,8 @@ use Rattle.placing.specs.Load.{noPoint}
 use Rattle.placing.specs.Laid.{places}
 use Rattle.placing.specs.Points.{points as table}
 use Rattle.placing.specs.Named.{lessOrigin, isListed, listedFrom, listedPoints}
-use Rattle.placing.specs.Inside.{pointPlaces, candidateOf, noLayoutPoint}
-use Rattle.placing.proofs.Table.{number-at}
+use Rattle.placing.specs.Inside.{pointPlaces, candidateOf}
+use Rattle.placing.proofs.Table.{noLayoutPoint, number-at}
 use borrow.Author.Needs.{needs}
 use Rattle.placing.proofs.named.listed_points.Statement.{statement}
 use Rattle.placing.proofs.named.listed_points.Tie as tie

@@ -14,7 +14,7 @@ use Rattle.placing.specs.declared.load.FocusPoints.{FocusPoints}
 use Rattle.placing.specs.declared.named.Window.{Window}
 use Rattle.placing.specs.declared.load.PointPlaces.{PointPlaces}
 use Rattle.placing.specs.Load.{noPoint}
-use Rattle.placing.specs.Laid.{places, refusalNumber, loadNumber, focusMeans, laidOut}
+use Rattle.placing.specs.Laid.{places, refusalNumber, loadMeans, focusMeans, laidOut}
 use Rattle.placing.specs.Inside.{pointPlaces}
 use Rattle.placing.specs.Points.{points as table}
 use Rattle.placing.specs.Named.{listedPoints, hasNumber, indexOf, windowFocus, placedIn}
@@ -61,7 +61,7 @@ module _ (w : Window) (primary mask : ℕ) (mode : FocusAreaMode) (l : PointPlac
           origin = Table;
         })
         ≡ laidOut (placedIn (accepted w) primary mask mode)
-    unfolding placedIn laidOut loadNumber
+    unfolding placedIn laidOut loadMeans
     some h = here (hasNumber primary (listedPoints w primary mask)) refl
       where
         here : (b : Bool) → hasNumber primary (listedPoints w primary mask) ≡ b →

@@ -6,7 +6,7 @@ use Rattle.reading.specs.declared.geometry.Size.{Size}
 use Rattle.reading.specs.declared.focus.FocusAreaMode.{FocusAreaMode}
 use Rattle.placing.specs.declared.focus.FocusPoint.{FocusPoint}
 use Rattle.placing.specs.Load.{noPoint, alone}
-use Rattle.placing.specs.Laid.{loadNumber, focusMeans, laidOut, places}
+use Rattle.placing.specs.Laid.{loadMeans, focusMeans, laidOut, places}
 use Rattle.placing.specs.declared.load.FocusOrigin.the-variants.{Recorded}
 use Rattle.placing.specs.declared.load.FocusAnswer.the-variants.{Accepted}
 use borrow.Author.Needs.{needs}
@@ -25,7 +25,7 @@ one : (f : Size) (p : FocusPoint) (m : FocusAreaMode) (blank : List FocusPoint) 
       origin = Recorded;
     })
     ≡ laidOut (alone f p m)
-unfolding laidOut places loadNumber
+unfolding laidOut places loadMeans
 one f p m blank e = rw e
 
 no-places-requires : tie.Need-no-places-requires

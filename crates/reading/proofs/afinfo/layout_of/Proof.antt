@@ -9,7 +9,8 @@ use lib.ListN.{getD, drop, take}
 use lib.Seq.{drop-cons}
 use denote.Ref.{now}
 use Rattle.numbers.specs.Bytes.{same}
-use Rattle.reading.specs.Record.{layouts, noLayout, versions, noVersion, layoutAmong, layoutOf}
+use Rattle.reading.specs.Record.{layouts, noLayout, versions, layoutAmong, layoutOf}
+use Rattle.reading.specs.Inside.{noVersion}
 use Rattle.reading.specs.declared.afinfo.Version.{Version}
 use Rattle.reading.specs.declared.afinfo.Layout.{Layout}
 use Rattle.reading.specs.declared.afinfo.KnownLayout.the-variants.{Unknown, Known}

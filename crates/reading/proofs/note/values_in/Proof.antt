@@ -49,8 +49,8 @@ module _ (o : ByteOrder) (s : List ℕ) (raw : OptionalSize) (x : AfInfo2) (ex :
       unfolding valuesIn
       said h c ec a ea = rw (← ex, e, ← eb, h, ← ec, ← ea)
 
-record-of-requires : tie.Need-record-of-requires
-record-of-requires c κs = search needs
+af-info2-of-requires : tie.Need-af-info2-of-requires
+af-info2-of-requires c κs = search needs
 
 enum-told : tie.Need-enum-told
 enum-told c = search needs
@@ -65,7 +65,7 @@ returns : tie.Need-returns
 returns c =
     let a = c .before .before .before .before .before .before .args in
     bad-manual (a .order) (now (a .block)) (a .raw) _
-    (c .before .before .before .before .record-of .ensures) _ (c .before .manual-focus .ensures)
+    (c .before .before .before .before .af-info2-of .ensures) _ (c .before .manual-focus .ensures)
     (c .before .before .enum-told2 .given .1) (c .if1 .taken)
 
 enum-known-recorded : tie.Need-enum-known-recorded
@@ -78,7 +78,7 @@ returns-2 : tie.Need-returns-2
 returns-2 c =
     let a = c .before .before .before .before .before .before .before .args in
     manual (a .order) (now (a .block)) (a .raw) _
-    (c .before .before .before .before .before .record-of .ensures) _ (c .before .manual-focus2 .ensures) _
+    (c .before .before .before .before .before .af-info2-of .ensures) _ (c .before .manual-focus2 .ensures) _
     (c .before .before .before .recorded .given .1) (c .if2 .taken)
 
 crop-hi-speed-requires : tie.Need-crop-hi-speed-requires
@@ -90,21 +90,21 @@ crop-area-requires c κs = search needs
 returns-3 : tie.Need-returns-3
 returns-3 c =
     let a = c .before .before .before .before .args in
-    missing (a .order) (now (a .block)) (a .raw) _ (c .before .before .record-of .ensures)
+    missing (a .order) (now (a .block)) (a .raw) _ (c .before .before .af-info2-of .ensures)
     (c .enum-told .given .1)
 
 returns-4 : tie.Need-returns-4
 returns-4 c =
     let a = c .before .before .before .before .before .before .args in
     bad (a .order) (now (a .block)) (a .raw) _
-    (c .before .before .before .before .record-of .ensures) _ (c .before .manual-focus .ensures)
+    (c .before .before .before .before .af-info2-of .ensures) _ (c .before .manual-focus .ensures)
     (c .before .before .enum-told2 .given .1) (c .if1 .left)
 
 returns-5 : tie.Need-returns-5
 returns-5 c =
     let a = c .before .before .before .before .before .before .before .before .before .args in
     said (a .order) (now (a .block)) (a .raw) _
-    (c .before .before .before .before .before .before .before .record-of .ensures) _
+    (c .before .before .before .before .before .before .before .af-info2-of .ensures) _
     (c .before .before .before .manual-focus2 .ensures) _
     (c .before .before .before .before .before .recorded .given .1) (c .before .before .if2 .left) _
     (c .before .crop-hi-speed .ensures) _ (c .crop-area .ensures)
@@ -113,7 +113,7 @@ pub values-in-spec : {M : Type 1} → statement M
 values-in-spec =
     tie.close
     (tie.spec
-    record-of-requires
+    af-info2-of-requires
     enum-told
     enum-told-2
     manual-focus-requires

@@ -28,7 +28,7 @@ ends-requires-3 : tie.Need-ends-requires-3
 ends-requires-3 c κs = search needs
 
 returns-3 : tie.Need-returns-3
-returns-3 c = (c .ends3 .ensures) ∙ ap (leaves 0) (c .before .with-edit .ensures) ∙ when-open _ _ (c .before .before .before .before .before .is-usable .ensures) _ (c .before .before .before .before .if1 .left) (c .before .before .if2 .left)
+returns-3 c = (c .ends3 .ensures) ∙ ap leaves (c .before .with-edit .ensures) ∙ when-open _ _ (c .before .before .before .before .before .is-usable .ensures) _ (c .before .before .before .before .if1 .left) (c .before .before .if2 .left)
 
 pub add-spec : {M : Type 1} → statement M
 add-spec =

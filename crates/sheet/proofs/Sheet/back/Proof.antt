@@ -4,22 +4,22 @@ use mathlib.Core.Bool.{Bool, true, false, not}
 use Prim.Native.Nat.{_-_}
 use borrow.Author.Tests.{eq-eqb, ne-eqb, not-true, not-false}
 use Rattle.sheet.specs.declared.Sheet.{Sheet}
-use Rattle.sheet.specs.Sheet.{leaves, withEdits, usable, backSheet}
+use Rattle.sheet.specs.Sheet.{leaves, keptBy, withEdits, usable, backSheet}
 use borrow.Author.Needs.{needs}
 use Rattle.sheet.proofs.Sheet.back.Statement.{statement}
 use Rattle.sheet.proofs.Sheet.back.Tie as tie
 
 module _ (s : Sheet) (r : Bool) (e : r ≡ usable s) where
-  empty : not r ≡ true → leaves 7 s ≡ backSheet s
+  empty : not r ≡ true → keptBy 7 s ≡ backSheet s
   unfolding backSheet
   empty n = rw (← e, not-true r n)
 
   module _ (n : not r ≡ false) where
-    none-stands : s .standing ≡ 0 → leaves 11 s ≡ backSheet s
+    none-stands : s .standing ≡ 0 → keptBy 11 s ≡ backSheet s
     unfolding backSheet
     none-stands a = rw (← e, not-false r n, eq-eqb (s .standing) 0 a)
 
-    one-less : (s .standing ≡ 0 → ⊥) → leaves 0 (withEdits s (s .edits) (s .standing - 1)) ≡ backSheet s
+    one-less : (s .standing ≡ 0 → ⊥) → leaves (withEdits s (s .edits) (s .standing - 1)) ≡ backSheet s
     unfolding backSheet
     one-less a = rw (← e, not-false r n, ne-eqb (s .standing) 0 a)
 

@@ -9,8 +9,8 @@ use Rattle.sheet.specs.declared.edits.Edit.{Edit}
 use Rattle.sheet.specs.declared.edits.Edit.the-variants.{Cut}
 use Rattle.sheet.specs.declared.edits.Carried.{Carried}
 use Rattle.sheet.specs.declared.Sheet.{Sheet}
-use Rattle.sheet.specs.Place.{moved, cutPasses}
-use Rattle.sheet.specs.Sheet.{leaves, usable, placedAt, presentFrame, addEdit, keepsPrimary, cutSheet}
+use Rattle.sheet.specs.Place.{moved, isGoodCut}
+use Rattle.sheet.specs.Sheet.{leaves, keptBy, usable, placedAt, presentFrame, addEdit, keepsPrimary, cutSheet}
 use Rattle.sheet.proofs.Usable.{counts, when-empty, when-full, when-open}
 use borrow.Author.Needs.{needs}
 use Rattle.sheet.proofs.Sheet.cut.Statement.{statement}
@@ -26,20 +26,20 @@ module _ (s : Sheet) (q : Carried) (e : q ≡ placedAt s (s .primary)) where
   listed-by d u g = ap (λ (x : Carried). x .listed) (g ∙ ap (moved d) e)
 
 module _ (s : Sheet) (l t w h : ℕ) (r : Bool) (e : r ≡ usable s) (n : not r ≡ false) (a : s .standing < 64)
-    (f : Size) (ef : f ≡ presentFrame s) (p : Bool) (ep : p ≡ cutPasses l t w h f) where
-  passes-frame : not p ≡ true → leaves 9 s ≡ cutSheet s l t w h
+    (f : Size) (ef : f ≡ presentFrame s) (p : Bool) (ep : p ≡ isGoodCut l t w h f) where
+  passes-frame : not p ≡ true → keptBy 9 s ≡ cutSheet s l t w h
   unfolding cutSheet
-  passes-frame m = rw (← ef, ← ep, not-true p m) (when-open s r e (leaves 9 s) n a)
+  passes-frame m = rw (← ef, ← ep, not-true p m) (when-open s r e (keptBy 9 s) n a)
 
   module _ (m : not p ≡ false) (k : Bool) (ek : k ≡ keepsPrimary s (Cut l t w h)) where
-    drops : not k ≡ true → leaves 10 s ≡ cutSheet s l t w h
+    drops : not k ≡ true → keptBy 10 s ≡ cutSheet s l t w h
     unfolding cutSheet
-    drops d = rw (← ef, ← ep, not-false p m, ← ek, not-true k d) (when-open s r e (leaves 10 s) n a)
+    drops d = rw (← ef, ← ep, not-false p m, ← ek, not-true k d) (when-open s r e (keptBy 10 s) n a)
 
-    done : not k ≡ false → (z : Sheet) → z ≡ addEdit s (Cut l t w h) → leaves 0 z ≡ cutSheet s l t w h
+    done : not k ≡ false → (z : Sheet) → z ≡ addEdit s (Cut l t w h) → leaves z ≡ cutSheet s l t w h
     unfolding cutSheet
     done d z ez =
-        rw (← ef, ← ep, not-false p m, ← ek, not-false k d, ← ez) (when-open s r e (leaves 0 z) n a)
+        rw (← ef, ← ep, not-false p m, ← ek, not-false k d, ← ez) (when-open s r e (leaves z) n a)
 
 is-usable-requires : tie.Need-is-usable-requires
 is-usable-requires c κs = search needs
@@ -61,14 +61,14 @@ returns-2 c = (c .ends2 .ensures) ∙ when-full _ _ (c .before .before .before .
 place-at-requires : tie.Need-place-at-requires
 place-at-requires c κs = let u = counts _ _ (c .before .before .before .is-usable .ensures) (c .before .before .if1 .left) in omega arith
 
-cut-passes-requires : tie.Need-cut-passes-requires
-cut-passes-requires c κs = search needs
+is-good-cut-requires : tie.Need-is-good-cut-requires
+is-good-cut-requires c κs = search needs
 
 ends-requires-3 : tie.Need-ends-requires-3
 ends-requires-3 c κs = search needs
 
 returns-3 : tie.Need-returns-3
-returns-3 c = (c .ends3 .ensures) ∙ passes-frame _ _ _ _ _ _ (c .before .before .before .before .before .before .before .before .is-usable .ensures) (c .before .before .before .before .before .before .before .if1 .left) (c .before .before .before .before .before .if2 .left) _ (frame-of _ _ (c .before .before .before .before .place-at .ensures)) _ (c .before .before .cut-passes .ensures) (c .before .if3 .taken)
+returns-3 c = (c .ends3 .ensures) ∙ passes-frame _ _ _ _ _ _ (c .before .before .before .before .before .before .before .before .is-usable .ensures) (c .before .before .before .before .before .before .before .if1 .left) (c .before .before .before .before .before .if2 .left) _ (frame-of _ _ (c .before .before .before .before .place-at .ensures)) _ (c .before .before .is-good-cut .ensures) (c .before .if3 .taken)
 
 move-by-requires : tie.Need-move-by-requires
 move-by-requires c κs = search needs
@@ -77,7 +77,7 @@ ends-requires-4 : tie.Need-ends-requires-4
 ends-requires-4 c κs = search needs
 
 returns-4 : tie.Need-returns-4
-returns-4 c = (c .ends4 .ensures) ∙ drops _ _ _ _ _ _ (c .before .before .before .before .before .before .before .before .before .before .before .is-usable .ensures) (c .before .before .before .before .before .before .before .before .before .before .if1 .left) (c .before .before .before .before .before .before .before .before .if2 .left) _ (frame-of _ _ (c .before .before .before .before .before .before .before .place-at .ensures)) _ (c .before .before .before .before .before .cut-passes .ensures) (c .before .before .before .before .if3 .left) _ (listed-by _ _ (c .before .before .before .before .before .before .before .place-at .ensures) _ _ (c .before .before .before .move-by .ensures)) (c .before .if4 .taken)
+returns-4 c = (c .ends4 .ensures) ∙ drops _ _ _ _ _ _ (c .before .before .before .before .before .before .before .before .before .before .before .is-usable .ensures) (c .before .before .before .before .before .before .before .before .before .before .if1 .left) (c .before .before .before .before .before .before .before .before .if2 .left) _ (frame-of _ _ (c .before .before .before .before .before .before .before .place-at .ensures)) _ (c .before .before .before .before .before .is-good-cut .ensures) (c .before .before .before .before .if3 .left) _ (listed-by _ _ (c .before .before .before .before .before .before .before .place-at .ensures) _ _ (c .before .before .before .move-by .ensures)) (c .before .if4 .taken)
 
 with-edit-requires : tie.Need-with-edit-requires
 with-edit-requires c κs = search needs
@@ -86,7 +86,7 @@ ends-requires-5 : tie.Need-ends-requires-5
 ends-requires-5 c κs = search needs
 
 returns-5 : tie.Need-returns-5
-returns-5 c = (c .ends5 .ensures) ∙ done _ _ _ _ _ _ (c .before .before .before .before .before .before .before .before .before .before .before .before .is-usable .ensures) (c .before .before .before .before .before .before .before .before .before .before .before .if1 .left) (c .before .before .before .before .before .before .before .before .before .if2 .left) _ (frame-of _ _ (c .before .before .before .before .before .before .before .before .place-at .ensures)) _ (c .before .before .before .before .before .before .cut-passes .ensures) (c .before .before .before .before .before .if3 .left) _ (listed-by _ _ (c .before .before .before .before .before .before .before .before .place-at .ensures) _ _ (c .before .before .before .before .move-by .ensures)) (c .before .before .if4 .left) _ (c .before .with-edit .ensures)
+returns-5 c = (c .ends5 .ensures) ∙ done _ _ _ _ _ _ (c .before .before .before .before .before .before .before .before .before .before .before .before .is-usable .ensures) (c .before .before .before .before .before .before .before .before .before .before .before .if1 .left) (c .before .before .before .before .before .before .before .before .before .if2 .left) _ (frame-of _ _ (c .before .before .before .before .before .before .before .before .place-at .ensures)) _ (c .before .before .before .before .before .before .is-good-cut .ensures) (c .before .before .before .before .before .if3 .left) _ (listed-by _ _ (c .before .before .before .before .before .before .before .before .place-at .ensures) _ _ (c .before .before .before .before .move-by .ensures)) (c .before .before .if4 .left) _ (c .before .with-edit .ensures)
 
 pub cut-spec : {M : Type 1} → statement M
 cut-spec =
@@ -98,7 +98,7 @@ cut-spec =
     ends-requires-2
     returns-2
     place-at-requires
-    cut-passes-requires
+    is-good-cut-requires
     ends-requires-3
     returns-3
     move-by-requires

@@ -6,8 +6,7 @@ use Rattle.reading.specs.Outcome.{Outcome, refused}
 use Rattle.placing.specs.declared.load.Refusal.{Refusal}
 use Rattle.placing.specs.declared.load.FocusAnswer.the-variants.{Accepted, Refused}
 use Rattle.placing.specs.Load.{Focus}
-use Rattle.placing.specs.Laid.{Laid, refusalNumber, loadNumber, laidOut}
-use Rattle.placing.proofs.Numbers.{numbered-load}
+use Rattle.placing.specs.Laid.{Laid, refusalNumber, loadMeans, laidOut}
 use Rattle.placing.proofs.Means.{IsLaid, when-refused, when-accepted}
 use Rattle.sheet.specs.declared.Sheet.{Sheet}
 use Rattle.sheet.specs.Sheet.{leaves, loadedSheet, loadSheet}
@@ -30,13 +29,13 @@ sheetOf l =
       standing = 0;
     }
 
-keeps : (s : Sheet) (o : Outcome Focus) (w : Refusal) → o ≡ refused (refusalNumber w) → leaves (loadNumber (Refused w)) s ≡ loadSheet s o
-unfolding loadSheet loadNumber
+keeps : (s : Sheet) (o : Outcome Focus) (w : Refusal) → o ≡ refused (refusalNumber w) → (loadMeans (Refused w), s) ≡ loadSheet s o
+unfolding loadSheet loadMeans
 keeps s o w e = rw e
 
-replaces : (s : Sheet) (o : Outcome Focus) (l : Laid) → IsLaid o l → leaves (loadNumber Accepted) (sheetOf l) ≡ loadSheet s o
-unfolding loadSheet loadedSheet laidOut loadNumber
-replaces s o l k = ap (λ (x : Laid). leaves 0 (sheetOf x)) (k .laid) ∙ ap (loadSheet s) (sym (k .is))
+replaces : (s : Sheet) (o : Outcome Focus) (l : Laid) → IsLaid o l → (loadMeans Accepted, sheetOf l) ≡ loadSheet s o
+unfolding loadSheet loadedSheet laidOut loadMeans
+replaces s o l k = ap (λ (x : Laid). leaves (sheetOf x)) (k .laid) ∙ ap (loadSheet s) (sym (k .is))
 
 focus-requires : tie.Need-focus-requires
 focus-requires c κs = search needs
@@ -51,7 +50,7 @@ returns : tie.Need-returns
 returns c = keeps _ _ _ (when-refused _ _ _ (c .before .before .before .focus .ensures) (c .before .answer .given .1))
 
 returns-2 : tie.Need-returns-2
-returns-2 c = replaces _ _ _ (when-accepted _ _ (numbered-load _ _ _ _) (c .before .before .before .before .focus .ensures) (c .before .before .enum-told .given .1))
+returns-2 c = replaces _ _ _ (when-accepted _ _ (c .before .before .before .before .focus .ensures) (c .before .before .enum-told .given .1))
 
 pub load-spec : {M : Type 1} → statement M
 load-spec = tie.close (tie.spec focus-requires enum-known-answer enum-told returns returns-2)

@@ -62,8 +62,8 @@ mul-out-5 c = search needs
 slice-write-out-5 : tie.Need-slice-write-out-5
 slice-write-out-5 c = simp length-set (omega arith)
 
-in-focus-number-requires : tie.Need-in-focus-number-requires
-in-focus-number-requires c κs = search needs
+in-focus-of-requires : tie.Need-in-focus-of-requires
+in-focus-of-requires c κs = search needs
 
 add-out-5 : tie.Need-add-out-5
 add-out-5 c = search needs
@@ -80,7 +80,7 @@ same-length c = simp length-set
 returns : tie.Need-returns
 returns c =
     six-stores (c .before .before .before .before .args .out .now) (c .before .before .before .before .args .at)
-    (c .before .before .before .before .args .point) _ (c .in-focus-number .ensures)
+    (c .before .before .before .before .args .point) _ (c .in-focus-of .ensures)
 
 pub put-point-spec : {M : Type 1} → statement M
 put-point-spec =
@@ -100,7 +100,7 @@ put-point-spec =
     add-out-4
     mul-out-5
     slice-write-out-5
-    in-focus-number-requires
+    in-focus-of-requires
     add-out-5
     mul-out-6
     slice-write-out-6

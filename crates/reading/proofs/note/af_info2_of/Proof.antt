@@ -1,4 +1,4 @@
--- `note::record_of` meets its contract: a walk of its MIR, by hand. The note that `Note::new` makes is held in a local and passed to `Note::record`. All that the proof knows of the two is that each meets its contract.
+-- `note::af_info2_of` meets its contract: a walk of its MIR, by hand. The note that `Note::new` makes is held in a local and passed to `Note::record`. All that the proof knows of the two is that each meets its contract.
 -- The machine value that `new` returns is stored and passed on as it is. In a local of a body MIR erases the lifetime of the note's type, so the value is shown to have the type at `erased`: what the note owns does not say the lifetime's name.
 -- Assumes nothing.
 use mathlib.Core.Path.{_≡_, refl, ap, _∙_}
@@ -52,10 +52,10 @@ use Rattle.reading.proofs.note.Note.new.Met as new-thm
 use Rattle.reading.proofs.note.Note.record as asks
 use Rattle.reading.proofs.note.Note.record.Symbol as record-def
 use Rattle.reading.proofs.note.Note.record.Met as record-thm
-use Rattle.reading.proofs.note.record_of.Key.{name as #record-of}
-use Rattle.reading.proofs.note.record_of as above
-use Rattle.reading.proofs.note.record_of.Statement as stated
-use Rattle.reading.proofs.note.record_of.Code as code
+use Rattle.reading.proofs.note.af_info2_of.Key.{name as #af-info2-of}
+use Rattle.reading.proofs.note.af_info2_of as above
+use Rattle.reading.proofs.note.af_info2_of.Statement as stated
+use Rattle.reading.proofs.note.af_info2_of.Code as code
 
 abbrev stayed : Stays (above.ended .signature .params) (above.ended .kept)
 stayed = (stay-none-slice (0 ∷ []) tt (plain (λ _. u8)) yes, (stay-none (λ _. O.the-row) yes, tt))
@@ -149,11 +149,11 @@ meets : {M : Type 1} (𝓤 : URA M) (H : Heap 𝓤) (A : Atoms 𝓤) (W : Given 
 meets 𝓤 H A W mem run 𝓣 known-new known-record = walk-meets 𝓤 H A above.ended stayed W (goes-none-slice 𝓤 H A W 1 (0 ∷ []) tt (plain (λ _. u8)) yes, (goes-none 𝓤 H A W 1 (λ _. O.the-row) yes (λ κs x f. refl), tt)) (above.clauses 𝓤 H A mem run) (WpFn 𝓤 H (𝓣 .C) (𝓣 .Λ) code.function) (WpFn-mono 𝓤 H (W .laws) 𝓣 code.function)
     (walks 𝓤 H A W mem run (𝓣 .C) (𝓣 .Λ) (fmOf 𝓤 H (W .laws) 𝓣) known-new known-record)
 
-pub record-of-spec : {M : Type 1} → stated.statement M
+pub af-info2-of-spec : {M : Type 1} → stated.statement M
 unfolding code.routine tablesOf
-record-of-spec 𝓤 H 𝓜 𝓖 𝓡 =
+af-info2-of-spec 𝓤 H 𝓜 𝓖 𝓡 =
     entered 𝓤 H (tripleOf 𝓤 H (𝓖 .A) above.signature (above.spec 𝓤 H (𝓖 .A) (𝓜 .mem) (𝓡 .run)))
-    (tables 𝓤 H 𝓜 𝓡 code.env .C) (tables 𝓤 H 𝓜 𝓡 code.env .Λ) #record-of code.function (code.unfolded 𝓤 H 𝓜 𝓡)
+    (tables 𝓤 H 𝓜 𝓡 code.env .C) (tables 𝓤 H 𝓜 𝓡 code.env .Λ) #af-info2-of code.function (code.unfolded 𝓤 H 𝓜 𝓡)
     (meets 𝓤 H (𝓖 .A) (givenOf 𝓤 H 𝓜 𝓖) (𝓜 .mem) (𝓡 .run) (tablesOf 𝓤 H 𝓜 (tables 𝓤 H 𝓜 𝓡 code.env))
     (cited 𝓤 H (New 𝓤 H (𝓖 .A) (𝓜 .mem) (𝓡 .run)) 𝓜 𝓡 code.env new-def.name new-def.routine code.calls-reading·note·Note·new (new-thm.met 𝓤 H 𝓜 𝓖 𝓡))
     (cited 𝓤 H (Record 𝓤 H (𝓖 .A) (𝓜 .mem) (𝓡 .run)) 𝓜 𝓡 code.env record-def.name record-def.routine code.calls-reading·note·Note·record (record-thm.met 𝓤 H 𝓜 𝓖 𝓡)))

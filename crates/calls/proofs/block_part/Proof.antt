@@ -1,8 +1,8 @@
--- `block_of`: the part of the bytes past the model and before the check. Assumes nothing.
+-- `block_part`: the part of the bytes past the model and before the check. Assumes nothing.
 use Rattle.calls.proofs.Laws as laws
 use borrow.Author.Needs.{needs}
-use Rattle.calls.proofs.block_of.Statement.{statement}
-use Rattle.calls.proofs.block_of.Tie as tie
+use Rattle.calls.proofs.block_part.Statement.{statement}
+use Rattle.calls.proofs.block_part.Tie as tie
 
 model-length-requires : tie.Need-model-length-requires
 model-length-requires c κs = search needs
@@ -25,8 +25,8 @@ head-requires c κs = search needs
 returns : tie.Need-returns
 returns c = laws.block-part _ _ _ _ (c .before .before .before .model-length .ensures .0) (c .before .before .tail .ensures) _ (c .before .less .ensures) (c .head .ensures)
 
-pub block-of-spec : {M : Type 1} → statement M
-block-of-spec =
+pub block-part-spec : {M : Type 1} → statement M
+block-part-spec =
     tie.close
     (tie.spec
     model-length-requires

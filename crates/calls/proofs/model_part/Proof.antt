@@ -1,8 +1,8 @@
--- `model_of`: the part of the bytes that the length byte tells. Assumes nothing.
+-- `model_part`: the part of the bytes that the length byte tells. Assumes nothing.
 use Rattle.calls.proofs.Laws as laws
 use borrow.Author.Needs.{needs}
-use Rattle.calls.proofs.model_of.Statement.{statement}
-use Rattle.calls.proofs.model_of.Tie as tie
+use Rattle.calls.proofs.model_part.Statement.{statement}
+use Rattle.calls.proofs.model_part.Tie as tie
 
 tail-requires : tie.Need-tail-requires
 tail-requires c κs = search needs
@@ -16,5 +16,5 @@ head-requires c κs = search needs
 returns : tie.Need-returns
 returns c = laws.model-part _ _ _ _ (c .before .model-length .ensures .0) (c .before .before .tail .ensures) (c .head .ensures)
 
-pub model-of-spec : {M : Type 1} → statement M
-model-of-spec = tie.close (tie.spec tail-requires model-length-requires head-requires returns)
+pub model-part-spec : {M : Type 1} → statement M
+model-part-spec = tie.close (tie.spec tail-requires model-length-requires head-requires returns)

@@ -1,9 +1,9 @@
--- `tag_at`: past the end a list reads as 0. Assumes nothing.
+-- `nth_tag`: past the end a list reads as 0. Assumes nothing.
 use mathlib.Core.Path.{sym}
 use lib.ListN.{List·getD-eq-default}
 use borrow.Author.Needs.{needs}
-use Rattle.answers.proofs.tag_at.Statement.{statement}
-use Rattle.answers.proofs.tag_at.Tie as tie
+use Rattle.answers.proofs.nth_tag.Statement.{statement}
+use Rattle.answers.proofs.nth_tag.Tie as tie
 
 mul-result : tie.Need-mul-result
 mul-result c = search needs
@@ -17,5 +17,5 @@ returns c = search needs
 returns-2 : tie.Need-returns-2
 returns-2 c = sym (List·getD-eq-default (c .before .args .tags .now) 0 (c .if1 .left))
 
-pub tag-at-spec : {M : Type 1} → statement M
-tag-at-spec = tie.close (tie.spec mul-result shared-slice-read-result returns returns-2)
+pub nth-tag-spec : {M : Type 1} → statement M
+nth-tag-spec = tie.close (tie.spec mul-result shared-slice-read-result returns returns-2)
