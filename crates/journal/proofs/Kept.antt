@@ -7,7 +7,7 @@ use mathlib.Core.Logic.{_⊎_, inl, inr}
 use mathlib.Core.Path.{_≡_, refl}
 use lib.Dec.{ltb, eqb}
 use lib.ListN.{length}
-use Rattle.reading.specs.Outcome.{Outcome, refused, accepted}
+use Rattle.reading.specs.Outcome.{Outcome, refused, accepted, isAccepted}
 use Rattle.reading.specs.declared.geometry.Size.{Size}
 use Rattle.placing.specs.Fit.{hasZeroSide}
 use Rattle.placing.specs.Focus.{focusOf}
@@ -22,10 +22,6 @@ use Rattle.journal.specs.Journal.{Change, cut, turn, mirror, Answer}
 use Rattle.journal.specs.Calls.{Call, load, change, back, list, fit, lent}
 use Rattle.journal.specs.SheetCalls.{afterEdit, afterList, changed, sheetStep}
 use Rattle.journal.specs.Claim.{RefusedKeeps}
-
-abbrev isAccepted : Outcome (List ℕ) → Bool
-isAccepted (refused n) = false
-isAccepted (accepted given) = true
 
 -- a call that ends so on the sheet s, with the buffer b, is accepted or keeps both
 abbrev Keeps : Answer × Sheet → Sheet → List ℕ → Type 0

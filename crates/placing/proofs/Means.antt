@@ -1,21 +1,16 @@
 -- What the value that `focus` gives tells, by its answer: refused, the load is refused by that number; accepted, the load is accepted
 -- and stands in the fields. The idea: a refusal is no acceptance, on either side. Assumes nothing.
 use Prim.Native.Nat.{ℕ}
-use mathlib.Core.Bool.{Bool, true, false, false≢true}
+use mathlib.Core.Bool.{false≢true}
 use mathlib.Core.List.{List, []}
 use mathlib.Core.Path.{_≡_, refl, sym, ap, _∙_}
-use Rattle.reading.specs.Outcome.{Outcome, refused, accepted}
+use Rattle.reading.specs.Outcome.{Outcome, refused, accepted, isAccepted}
 use Rattle.placing.specs.declared.load.FocusAnswer.{FocusAnswer}
 use Rattle.placing.specs.declared.load.FocusAnswer.the-variants.{Accepted, Refused}
 use Rattle.placing.specs.declared.load.FocusPoints.{FocusPoints}
 use Rattle.placing.specs.declared.load.Refusal.{Refusal}
 use Rattle.placing.specs.Load.{Focus}
 use Rattle.placing.specs.Laid.{Laid, refusalNumber, loadMeans, focusMeans, laidOut}
-
--- the test that tells the two apart
-abbrev isAccepted : Outcome (List ℕ) → Bool
-isAccepted (refused n) = false
-isAccepted (accepted given) = true
 
 differ : {n : ℕ} {given : List ℕ} → refused n ≡ accepted given → ⊥
 differ e = false≢true (ap isAccepted e)

@@ -11,6 +11,11 @@ abbrev pub numberOf : {A : Type 0} → Outcome A → ℕ
 numberOf (refused n) = n
 numberOf (accepted a) = 0
 
+-- whether a call is accepted
+abbrev pub isAccepted : {A : Type 0} → Outcome A → Bool
+isAccepted (refused n) = false
+isAccepted (accepted a) = true
+
 -- an accepted value is handed on, a refusal stays
 abbrev pub andThen : {A B : Type 0} → Outcome A → (A → Outcome B) → Outcome B
 andThen (refused n) f = refused n
