@@ -229,7 +229,7 @@ const POINTS: [FocusLayoutPoint; 39] = [
 pub fn find(model: &[u8]) -> PointTable
     ensures { λ r. ⌜ r ≡ tableOf (now (model .entry)) ⌝ }
 {
-    if numbers::io::equals(model, b"NIKON D600") {
+    if reading::nikon::is_text(model, b"NIKON D600") {
         return PointTable::NikonD600;
     }
     PointTable::NoTable

@@ -7,6 +7,7 @@ use crate::ifd::Block;
 use numbers::io::ByteOrder;
 ghost use mathlib.Core.Path.{_≡_};
 ghost use Prim.Native.Nat.{_<_};
+ghost use Rattle.numbers.specs.Bytes.{same};
 ghost use Rattle.reading.specs.Outcome.{numberOf};
 ghost use Rattle.reading.specs.Block.{blockOf};
 ghost use Rattle.reading.specs.Values.{upToZero, trimStart, trimEnd, isManual, manualFocusOf, numberAt, cropHiSpeedOf, isRectangle, insideRaw, cropAreaOf, afInfo2Of};
@@ -65,6 +66,13 @@ fn trim_end(s: &[u8]) -> &[u8]
     numbers::io::head(s, n)
 }
 
+// Whether a text is this one, the whole of it: so FocusMode is compared, and a model's name.
+pub fn is_text(text: &[u8], wanted: &[u8]) -> bool
+    ensures { λ r. ⌜ r ≡ same (now (text .entry)) (now (wanted .entry)) ⌝ }
+{
+    numbers::io::equals(text, wanted)
+}
+
 // Whether a FocusMode text reads MANUAL.
 fn is_manual(value: &[u8]) -> bool
     ensures { λ r. ⌜ r ≡ isManual (now (value .entry)) ⌝ }
@@ -73,7 +81,7 @@ fn is_manual(value: &[u8]) -> bool
     if 255 < text.len() {
         return false;
     }
-    numbers::io::equals(trim_end(trim_start(text)), b"MANUAL")
+    is_text(trim_end(trim_start(text)), b"MANUAL")
 }
 
 // Whether FocusMode records manual focus.

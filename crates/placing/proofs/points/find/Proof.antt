@@ -19,17 +19,17 @@ module _ (model : List ℕ) (b : Bool) (eb : b ≡ same model d600) where
   unfolding tableOf
   other h = rw (← eb, h)
 
-slice-aggregate-equals : tie.Need-slice-aggregate-equals
-slice-aggregate-equals c = search needs
+slice-aggregate-is-text : tie.Need-slice-aggregate-is-text
+slice-aggregate-is-text c = search needs
 
-equals-requires : tie.Need-equals-requires
-equals-requires c κs = search needs
+is-text-requires : tie.Need-is-text-requires
+is-text-requires c κs = search needs
 
 returns : tie.Need-returns
-returns c = found _ _ (c .before .equals .ensures) (c .if1 .taken)
+returns c = found _ _ (c .before .is-text .ensures) (c .if1 .taken)
 
 returns-2 : tie.Need-returns-2
-returns-2 c = other _ _ (c .before .equals .ensures) (c .if1 .left)
+returns-2 c = other _ _ (c .before .is-text .ensures) (c .if1 .left)
 
 pub find-spec : {M : Type 1} → statement M
-find-spec = tie.close (tie.spec slice-aggregate-equals equals-requires returns returns-2)
+find-spec = tie.close (tie.spec slice-aggregate-is-text is-text-requires returns returns-2)

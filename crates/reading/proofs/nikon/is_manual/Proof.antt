@@ -33,14 +33,14 @@ trim-start-requires c κs = search needs
 trim-end-requires : tie.Need-trim-end-requires
 trim-end-requires c κs = search needs
 
-slice-aggregate-equals : tie.Need-slice-aggregate-equals
-slice-aggregate-equals c = search needs
+slice-aggregate-is-text : tie.Need-slice-aggregate-is-text
+slice-aggregate-is-text c = search needs
 
-equals-requires : tie.Need-equals-requires
-equals-requires c κs = search needs
+is-text-requires : tie.Need-is-text-requires
+is-text-requires c κs = search needs
 
 returns-2 : tie.Need-returns-2
-returns-2 c = compared (now (c .before .before .before .before .before .before .before .args .value)) _ (c .before .before .before .before .before .up-to-zero .ensures) _ _ _ (c .before .before .before .before .if1 .left) (c .before .before .before .trim-start .ensures) (c .before .before .trim-end .ensures) (c .equals .ensures)
+returns-2 c = compared (now (c .before .before .before .before .before .before .before .args .value)) _ (c .before .before .before .before .before .up-to-zero .ensures) _ _ _ (c .before .before .before .before .if1 .left) (c .before .before .before .trim-start .ensures) (c .before .before .trim-end .ensures) (c .is-text .ensures)
 
 pub is-manual-spec : {M : Type 1} → statement M
 is-manual-spec =
@@ -50,6 +50,6 @@ is-manual-spec =
     returns
     trim-start-requires
     trim-end-requires
-    slice-aggregate-equals
-    equals-requires
+    slice-aggregate-is-text
+    is-text-requires
     returns-2)
