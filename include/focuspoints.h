@@ -97,11 +97,13 @@ size_t focuspoints_script(
 
 /*
  * Which of the tags 0007, 001B, 0045 and 00B7 (hexadecimal) have a kept entry
- * in a maker note.
+ * in a maker note. Kept are the entries of types 1 to 13, damaged ones too; any
+ * other entry is passed over, and neither counts nor sets a place.
  *
  * Returns FOCUSPOINTS_OK and writes their number, 0 to 4, at out[0] and the
- * tags at out[1] to out[4], each once, in an order that is open; the places
- * that no tag needs are 0. The places behind these five are kept.
+ * tags from out[1] on, each once, in the order of their first kept entries in
+ * the directory; the places up to out[4] that no tag needs are 0 and stand
+ * last. The places behind these five are kept.
  *
  * Or returns FOCUSPOINTS_UNREADABLE, or FOCUSPOINTS_SHORT where `out` has
  * fewer than 5 places. Then the whole of `out` is kept.

@@ -154,6 +154,127 @@ static void contents(void)
     EXPECT(out[0] == 0 && out[1] == 0 && out[2] == 0 && out[3] == 0 && out[4] == 0);
 }
 
+/* An entry of a directory. */
+struct entry {
+    uint16_t tag, type;
+    uint32_t count, field;
+};
+#define INTACT(tag) {tag, 7, 4, 0x61626364}
+#define OF_TYPE(tag, type) {tag, type, 1, 0x61626364}
+#define DAMAGED(tag) {tag, 7, 5, UINT32_MAX} /* five bytes, at the last offset that there is */
+#define PASSED_OVER(tag) OF_TYPE(tag, 14)
+#define MOST_ENTRIES 8
+
+static uint8_t *put(uint8_t *at, uint32_t number, int bytes, int little)
+{
+    for (int i = 0; i < bytes; i++)
+        at[little ? i : bytes - 1 - i] = (uint8_t)(number >> 8 * i);
+    return at + bytes;
+}
+
+/* Writes a block of these entries and gives its length. */
+static size_t directory(uint8_t *block, const struct entry *entries, size_t count, int little)
+{
+    uint8_t *at = block;
+
+    memcpy(at, little ? "II*\0" : "MM\0*", 4);
+    at = put(at + 4, 8, 4, little);
+    at = put(at, (uint32_t)count, 2, little);
+    for (size_t i = 0; i < count; i++) {
+        at = put(at, entries[i].tag, 2, little);
+        at = put(at, entries[i].type, 2, little);
+        at = put(at, entries[i].count, 4, little);
+        at = put(at, entries[i].field, 4, little);
+    }
+    return (size_t)(at - block);
+}
+
+/* The five numbers for a block of these entries, in both byte orders; what lies behind them is kept, also where it is lent. */
+static void expect_contents(const struct entry *entries, size_t count, const uint32_t *numbers, const char *wrong)
+{
+    static const size_t places[3] = {5, 6, 1000};
+    uint8_t block[10 + 12 * MOST_ENTRIES];
+
+    for (int i = 0; i < 6; i++) {
+        size_t len = directory(block, entries, count, i % 2);
+        mark();
+        int holds = focuspoints_contents(block, len, out, places[i / 2]) == FOCUSPOINTS_OK && kept(5) &&
+                    memcmp(out, numbers, 5 * sizeof *out) == 0;
+        if (!holds)
+            printf("contents: %u %u %u %u %u, as with %s\n", out[0], out[1], out[2], out[3], out[4], wrong);
+        EXPECT(holds);
+    }
+}
+
+/* Directories in any order: a tag comes where its first kept entry stands. With each, what a wrong program has. */
+static const struct {
+    const char *wrong;
+    struct entry entries[MOST_ENTRIES];
+    size_t count;
+    uint32_t numbers[5];
+} directories[] = {
+    {"a tag placed by its last entry", {INTACT(0x07), INTACT(0x45), INTACT(0x07)}, 3, {2, 0x07, 0x45}},
+    {"a tag listed twice", {INTACT(0xB7), INTACT(0xB7), INTACT(0x1B), INTACT(0xB7)}, 4, {2, 0xB7, 0x1B}},
+    {"a fifth tag written", {INTACT(0x1B), INTACT(0x1B), INTACT(0x1B), INTACT(0x1B), INTACT(0x1B), INTACT(0x07)}, 6, {2, 0x1B, 0x07}},
+    {"an end after four entries",
+     {INTACT(0x45), INTACT(0xB7), INTACT(0x45), INTACT(0x07), INTACT(0xB7), INTACT(0x1B), INTACT(0x07), INTACT(0x45)}, 8,
+     {4, 0x45, 0xB7, 0x07, 0x1B}},
+    {"a damaged entry not kept", {DAMAGED(0xB7), INTACT(0x1B), DAMAGED(0x07)}, 3, {3, 0xB7, 0x1B, 0x07}},
+    {"a damaged entry without a place", {DAMAGED(0x45), INTACT(0x07), INTACT(0x45)}, 3, {2, 0x45, 0x07}},
+    {"a tag moved by a damaged entry", {INTACT(0x07), INTACT(0x45), DAMAGED(0x07)}, 3, {2, 0x07, 0x45}},
+    {"a passed-over type that counts", {PASSED_OVER(0xB7), INTACT(0x07), OF_TYPE(0x45, 0)}, 3, {1, 0x07}},
+    {"a passed-over type that sets a place", {PASSED_OVER(0x45), INTACT(0x1B), INTACT(0x45)}, 3, {2, 0x1B, 0x45}},
+    {"a tag taken away by a passed-over type", {INTACT(0x07), INTACT(0x45), PASSED_OVER(0x07)}, 3, {2, 0x07, 0x45}},
+    {"an end at a passed-over type", {INTACT(0xB7), PASSED_OVER(0x1B), INTACT(0x45)}, 3, {2, 0xB7, 0x45}},
+    {"the last byte of a type for the type", {OF_TYPE(0xB7, 0x0107), INTACT(0x45), OF_TYPE(0x07, 0x0700)}, 3, {1, 0x45}},
+    {"types 1 and 13 passed over", {OF_TYPE(0x45, 13), OF_TYPE(0x07, 1)}, 2, {2, 0x45, 0x07}},
+    {"a tag placed by its first entry of the right type", {OF_TYPE(0x45, 2), INTACT(0x07), OF_TYPE(0x45, 4)}, 3, {2, 0x45, 0x07}},
+    {"tag 0 listed", {INTACT(0), INTACT(0xB7), INTACT(0), INTACT(0x07)}, 4, {2, 0xB7, 0x07}},
+    {"tag 0 that takes places", {INTACT(0), INTACT(0), INTACT(0), INTACT(0), INTACT(0x1B), INTACT(0xB7), INTACT(0x45), INTACT(0x07)}, 8,
+     {4, 0x1B, 0xB7, 0x45, 0x07}},
+    {"another tag taken for one of the four", {INTACT(0x0700), INTACT(0x01B7), INTACT(0x45), INTACT(0xB700), INTACT(0x1B)}, 5,
+     {2, 0x45, 0x1B}},
+    {"none of the four, and a place not 0", {INTACT(0), DAMAGED(0x08), PASSED_OVER(0xB7)}, 3, {0}},
+};
+
+/* As many entries as a directory can have, the four tags at its end. */
+static void contents_of_the_longest(void)
+{
+    static const struct entry four[4] = {INTACT(0xB7), DAMAGED(0x45), INTACT(0x1B), INTACT(0x07)};
+    static struct entry entries[65535];
+    static uint8_t block[10 + 12 * 65535];
+    static const uint32_t numbers[5] = {4, 0xB7, 0x45, 0x1B, 0x07};
+
+    for (size_t i = 0; i < 65535; i++)
+        entries[i] = (struct entry)INTACT((uint16_t)(0x100 + i % 0x8000));
+    memcpy(entries + 65531, four, sizeof four);
+    for (int little = 0; little < 2; little++) {
+        size_t len = directory(block, entries, 65535, little);
+        mark();
+        EXPECT(focuspoints_contents(block, len, out, 1000) == FOCUSPOINTS_OK && kept(5) && memcmp(out, numbers, sizeof numbers) == 0);
+        mark();
+        EXPECT(focuspoints_contents(block, len - 1, out, 1000) == FOCUSPOINTS_UNREADABLE && kept(0));
+    }
+}
+
+static void contents_in_order(void)
+{
+    static const uint32_t tags[4] = {0x07, 0x1B, 0x45, 0xB7};
+
+    for (size_t i = 0; i < sizeof directories / sizeof *directories; i++)
+        expect_contents(directories[i].entries, directories[i].count, directories[i].numbers, directories[i].wrong);
+    /* The four tags in each of their 24 orders; in i the digits of base 4 are the places. */
+    for (unsigned i = 0; i < 256; i++) {
+        const unsigned at[4] = {i >> 6 & 3, i >> 4 & 3, i >> 2 & 3, i & 3};
+        if ((1u << at[0] | 1u << at[1] | 1u << at[2] | 1u << at[3]) != 15)
+            continue;
+        const struct entry entries[4] = {INTACT((uint16_t)tags[at[0]]), INTACT((uint16_t)tags[at[1]]), INTACT((uint16_t)tags[at[2]]),
+                                         INTACT((uint16_t)tags[at[3]])};
+        const uint32_t numbers[5] = {4, tags[at[0]], tags[at[1]], tags[at[2]], tags[at[3]]};
+        expect_contents(entries, 4, numbers, "an order other than the directory's");
+    }
+}
+
 /* Calls in a thread with a small stack. The deepest that is known is a list after 64 edits, which with the thread's own need takes half
  * of it. The sanitizers need more. */
 #ifndef __SANITIZE_ADDRESS__
@@ -196,6 +317,8 @@ int main(int argc, char **argv)
     photograph();
     script();
     contents();
+    contents_in_order();
+    contents_of_the_longest();
     small_stack();
     if (argc == 2) {
         FILE *f = fopen(argv[1], "wb");

@@ -91,6 +91,22 @@ def dx_crop():
     yield script.LIST, shown
 
 
+def contents():
+    # 00B7, 0007 whose value lies past the block's end, 001B of type 14, 0045, and 0007 again. Types 1 to 13 are kept, damaged
+    # values too, so all but 001B; and 0007 stands where its first entry does, before 0045.
+    entries = [(0xB7, 7, 4, b"0100"), (0x07, 2, 5, b"", 4294967295), (0x1B, 14, 1, b""), (0x45, 3, 1, b"\0\1"),
+               (0x07, 2, 3, b"AF\0")]
+    yield script.contents(readers.block_of(entries)), "tags 3 183 7 69"
+    # The same directory in a little-endian block.
+    yield script.contents(readers.block_of(entries, "little")), "tags 3 183 7 69"
+    # The other way round: 0007, 0045, 001B of type 14, 0007 with the damaged value, and 00B7.
+    yield script.contents(readers.block_of(entries[::-1])), "tags 3 7 69 183"
+    # 001B of type 14, 0045, 001B of type 3: the first that is kept stands behind 0045.
+    yield script.contents(readers.block_of([(0x1B, 14, 1, b""), (0x45, 3, 1, b"\0\1"), (0x1B, 3, 1, b"\0\2")])), "tags 2 69 27"
+    # None of the four.
+    yield script.contents(readers.block_of([(0x01, 7, 4, b"0211"), (0x02, 3, 2, readers.numbers("big", 2, 0, 100))])), "tags 0"
+
+
 def recorded_block(version, order, position, in_focus, mode, entries):
     """A record with frame, centre and area at their places, behind other entries."""
     length, frame, centre, area, byte = reference.LAYOUTS[version]
@@ -220,7 +236,8 @@ def files():
     """The files, as (path, bytes)."""
     shown = {}
     for name, pairs in (
-        ("whole-case", whole_case()), ("dx-crop", dx_crop()), ("recorded", recorded()), ("refusals", refusals()),
+        ("whole-case", whole_case()), ("dx-crop", dx_crop()), ("recorded", recorded()), ("contents", contents()),
+        ("refusals", refusals()),
     ):
         given, printed = worked(pairs)
         shown[name] = printed

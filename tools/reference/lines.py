@@ -9,7 +9,9 @@ the front there is a stretch that leaves it empty. The last feed is missing now
 and then. The loads are those that are stored for placing_test, or those of a
 FILE of load lines (as tools/oracle's `loads` prints them), and the blocks of
 readers.py; as they are and changed: other sizes, models, named points and
-positions, damaged entries.
+positions, damaged entries, entries in another order. Contents lines have these
+blocks too; more than half have a directory by chance, of the four tags and
+others in any order, repeated, damaged and of types that are passed over.
 --tally counts the answers of reference.py.
 """
 
@@ -33,6 +35,8 @@ MODELS = [b"", b"NIKON D60", b"NIKON D6000", b"NIKON D600 ", b" NIKON D600", b"N
           b"nikon d600", b"NIKON D601", b"N" * 255]
 SIDES = [0, 1, 2, 3, 37, 100, 400, 424, 640, 1000, 4016, 6016, 65535, 65536, MAX_U32 - 1, MAX_U32]
 EDGES = [block for _, block in readers.cases() if len(block) <= 2000]
+OTHER_TAGS = [0, 0, 0, 1, 6, 8, 0x46, 0xB8, 0x0700, 0x1B00, 0x4500, 0xB700, 0x0107, 0x01B7, 65535]
+PASSED_OVER = [0, 0, 14, 14, 15, 255, 256, 0x0107, 0x0700, 65535]
 
 
 # -------------------------------------------------------------------- loads
@@ -121,6 +125,15 @@ def other_entry(chance, block, order):
     return bytes(data)
 
 
+def reordered(chance, block, order):
+    """The directory's entries in any order."""
+    first = reference.number_at(block, 4, 4, order) + 2
+    end = first + 12 * reference.number_at(block, first - 2, 2, order)
+    entries = [block[at : at + 12] for at in range(first, end, 12)]
+    chance.shuffle(entries)
+    return block[:first] + b"".join(entries) + block[end:]
+
+
 def spoiled(chance, block, order):
     """A block that most often cannot be read."""
     way = chance.randrange(6)
@@ -145,7 +158,7 @@ def changed(chance, given):
     """A load with something of it changed."""
     raw, picture, model, block = given
     order = reference.readable(block)
-    way = chance.choice(["raw", "picture", "model", "names", "names", "position", "entry", "entry", "spoiled", "byte"])
+    way = chance.choice(["raw", "picture", "model", "names", "names", "position", "entry", "entry", "order", "spoiled", "byte"])
     if way == "raw":
         raw = chance.choice(SIZES)
     elif way == "picture":
@@ -157,7 +170,7 @@ def changed(chance, given):
             at = chance.randrange(len(block))
             block = block[:at] + bytes([chance.randrange(256)]) + block[at + 1 :]
         else:
-            block = {"names": other_names, "position": other_position, "entry": other_entry,
+            block = {"names": other_names, "position": other_position, "entry": other_entry, "order": reordered,
                      "spoiled": spoiled}[way](chance, block, order)
     return raw, picture, model, block
 
@@ -238,12 +251,36 @@ def a_box(chance, book):
     return tuple(chance.choice(SIDES[1:] + [chance.randrange(1, 9000)]) for _ in range(2))
 
 
+def some_entries(chance, count):
+    """Entries of the four tags and others: intact, damaged, passed over."""
+    for _ in range(count):
+        tag = chance.choice(reference.FOUR_TAGS if chance.random() < 0.7 else OTHER_TAGS)
+        kind = chance.randrange(1, 14)
+        values = chance.choice([0, 1, 1, 2, 4])
+        value = chance.randbytes(values * reference.SIZE_OF_TYPE[kind])
+        yield chance.choices([(tag, kind, values, value), (tag, kind, chance.choice([5, 30, MAX_U32]), b"", MAX_U32),
+                              (tag, chance.choice(PASSED_OVER), values, value)], [5, 2, 3])[0]
+
+
+def a_directory(chance):
+    """A block of such entries; now and then behind another directory, or with
+    its last value, if not the directory, cut off."""
+    order = chance.choice(["big", "little"])
+    entries = list(some_entries(chance, chance.choice([1, 2, 3, 4, 5, 6, 8, 12, 40])))
+    if chance.random() < 0.1:
+        return readers.elsewhere(entries, list(some_entries(chance, 3)), order)
+    block = readers.block_of(entries, order)
+    return block if chance.random() < 0.9 else block[:-1]
+
+
 def a_contents(chance, path):
+    if chance.random() < 0.6:
+        return a_directory(chance)
     found = pools(path)
     block = chance.choice(found[chance.choice(list(found))])[3] if chance.random() < 0.7 else chance.choice(EDGES)
     order = reference.readable(block)
-    if order is not None and chance.random() < 0.5:
-        block = chance.choice([other_entry, other_entry, spoiled])(chance, block, order)
+    if order is not None and chance.random() < 0.7:
+        block = chance.choice([other_entry, other_entry, reordered, reordered, spoiled])(chance, block, order)
     return block if chance.random() < 0.98 else block.ljust(2046, b"\0")
 
 
@@ -402,14 +439,14 @@ class Script:
     def empty(self, count):
         """On an empty sheet: 7, and loads that are refused."""
         self.calls(count, {"refused": 3, "cut": 1, "turn": 1, "mirror": 1, "back": 1, "list": 1, "fit": 1,
-                           "contents": 1, "malformed": 3})
+                           "contents": 2, "malformed": 3})
 
     def episode(self):
         """An accepted load and calls on it."""
         chance = self.chance
         self.call("accepted")
         usual = {"refused": 14, "cut": 24, "turn": 8, "mirror": 6, "back": 13, "list": 16, "fit": 12,
-                 "contents": 4, "malformed": 14}
+                 "contents": 10, "malformed": 14}
         way = chance.randrange(16)
         if way < 13:
             self.calls(chance.choice([2, 5, 10, 20]), usual)

@@ -4,11 +4,11 @@ malformed.py --check    say whether the files are what would be written
 
 Writes crates/script_test/stdin: lines that are malformed in every way, and
 the well-formed ones beside them, on an empty sheet and on one with a standing
-edit, and loads that runs against the Rust leave out, each with a list line
-after it; and crates/script_test/stdout, what `focusdesk` must print. Which
-lines are malformed, and what the loads are answered, is said here, line by
-line; nothing is written if reference.py says otherwise. The last feed is
-missing.
+edit, the contents lines of demos.py, and loads that runs against the Rust leave
+out, each with a list line after it; and crates/script_test/stdout, what
+`focusdesk` must print. Which lines are malformed, and what the loads are
+answered, is said here, line by line; nothing is written if reference.py says
+otherwise. The last feed is missing.
 """
 
 import os
@@ -138,6 +138,8 @@ def well_formed():
     yield script.contents(b""), "no 1"
     yield script.line(1, bytes(18)), "no 1"
     yield script.line(1, bytes(17), b"\xff", bytes(255)), "no 1"
+    # Contents of directories in any order, which leave the sheet as it is.
+    yield from demos.contents()
     # Each flag, with sides of any size; sides of zero may be given.
     for flags, sides in (
         (0, (0, 0, 0, 0)), (1, (6016, 4016, 0, 0)), (1, (0, 0, 0, 0)), (2, (0, 0, 6016, 4016)), (2, (0, 0, 0, 0)),

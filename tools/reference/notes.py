@@ -28,7 +28,7 @@ LOADER.exec_module(make_line)
 
 
 def grown(chance, block):
-    """The block's entries among others, in a block of 3,000 to 34,000 bytes."""
+    """The block's entries among others, in a block of some thousand bytes or more."""
     order = reference.readable(block)
     if order is None:
         return block + bytes(chance.randrange(3000))
@@ -99,7 +99,9 @@ def main(arguments):
         if (len(line) > reference.MAX_LINE or reference.decode(line.encode()) != ("load", cut, raw, picture, model)
                 or reference.load(cut, raw, picture, model) != answer
                 or reference.contents(cut) != reference.contents(block)):
-            sys.exit("%s: answered %s; cut down, %s: %s" % (block.hex(), answer, cut.hex(), reference.load(cut, raw, picture, model)))
+            sys.exit("%s: answered %s, contents %s; cut down, %s: %s, contents %s" % (
+                block.hex(), answer, reference.contents(block),
+                cut.hex(), reference.load(cut, raw, picture, model), reference.contents(cut)))
         tally["no %d" % answer[1] if reference.refused(answer) else "placed"] += 1
         longest, shortest_cut, longest_cut = max(longest, len(block)), min(shortest_cut, len(cut)), max(longest_cut, len(cut))
     print("%d notes of up to %d bytes, cut down to %d to %d: the same answers (%s); %d that cannot be read" % (

@@ -7,13 +7,16 @@
 
 A line of BLOCKS is a block in hexadecimal; one that starts with '#' is printed
 as it is. One that starts with '+' is the front of two blocks, with zeros behind
-it: one as long as a block may be, and one a byte longer. A block that can be read is answered by its byte order; each of the
-four tags with its first kept entry's type, count and value; manual focus; the
-crop; the crop area in raw data of 6016 by 4016 and without a raw size; the
-record or its number; and the contents, with all four places. The order of
-`contents`, which is open, is that of the tags' numbers.
+it: one as long as a block may be, and one a byte longer. A block that can be
+read is answered by its byte order; each of the four tags with its first kept
+entry's type, count and value; manual focus; the crop; the crop area in raw data
+of 6016 by 4016 and without a raw size; the record or its number; and the
+contents, with all four places. For directories in which the order of contents
+hangs on one rule, that order is also said here by hand, and nothing is printed
+if the reference says otherwise.
 """
 
+import itertools
 import os
 import sys
 
@@ -165,6 +168,107 @@ def area(kind, *sides, count=4):
     return block_of([(0x45, kind, count, numbers("big", 2 if kind == 3 else 4, *sides))])
 
 
+def intact(tag, kind=7):
+    return (tag, kind, 1, bytes(range(1, 1 + ref.SIZE_OF_TYPE[kind])))
+
+
+def damaged(tag, kind=7):
+    """Kept, with a value of eight bytes or more past the block's end."""
+    return (tag, kind, 8, b"", 4_294_967_295)
+
+
+def passed_over(tag, kind=14):
+    return (tag, kind, 1, b"A")
+
+
+def elsewhere(wanted, other, order):
+    """A block whose directory lies behind another one, which stands at 8."""
+    data = bytearray(block_of(other, order))
+    behind = block_of(wanted, order)[8:]
+    data[4:8] = number(len(data), 4, order)
+    return bytes(data) + behind
+
+
+def directories(order):
+    """Blocks in which the order of contents hangs on one rule: what a wrong
+    program has, the contents by hand, and the block. A tag comes where its first
+    kept entry stands; damaged entries are kept."""
+    def of(wrong, tags, *entries):
+        return wrong, tags, block_of(entries, order)
+
+    kinds = dict(zip(ref.FOUR_TAGS, (2, 3, 4, 7)))
+    for tags in itertools.permutations(ref.FOUR_TAGS):
+        yield of("an order other than the directory's", list(tags), *(intact(tag, kinds[tag]) for tag in tags))
+
+    # repeated
+    yield of("a tag placed by its last entry", [0x07, 0x45], intact(0x07), intact(0x45), intact(0x07))
+    yield of("a tag placed by its last entry, the tags falling", [0xB7, 0x1B], intact(0xB7), intact(0x1B), intact(0xB7))
+    yield of("a tag placed by an entry in between", [0x45, 0x07, 0x1B],
+             intact(0x45), intact(0x07), intact(0x45), intact(0x1B), intact(0x45))
+    yield of("a tag listed twice", [0xB7], intact(0xB7), intact(0xB7))
+    yield of("a tag listed once for each entry, five places", [0x1B], *[intact(0x1B)] * 5)
+    yield of("a tag listed again behind others", [0x45, 0xB7, 0x07],
+             intact(0x45), intact(0xB7), intact(0x07), intact(0x45), intact(0xB7))
+    yield of("an end after four kept entries", [0x45, 0xB7, 0x07, 0x1B],
+             *(intact(tag) for tag in (0x45, 0xB7, 0x45, 0x07, 0xB7, 0x1B, 0x07, 0x1B, 0x45)))
+    yield of("an end at the first repeated tag", [0x07, 0x1B], intact(0x07), intact(0x07), intact(0x1B))
+    yield of("a tag placed by its first entry of the right type", [0x45, 0x07], intact(0x45, 2), intact(0x07, 2), intact(0x45, 4))
+    yield of("an entry of a wrong type that is not kept", [0xB7, 0x07], intact(0xB7, 1), intact(0x07, 3))
+
+    # damaged
+    yield of("a damaged entry that is not kept", [0xB7, 0x1B], damaged(0xB7), intact(0x1B))
+    yield of("a damaged entry that does not place its tag", [0x45, 0x07], damaged(0x45, 4), intact(0x07), intact(0x45, 4))
+    yield of("a damaged entry that places its tag anew", [0x07, 0x45], intact(0x07), intact(0x45), damaged(0x07, 2))
+    yield of("damaged entries behind the whole ones", [0xB7, 0x45, 0x1B, 0x07],
+             damaged(0xB7), intact(0x45), damaged(0x1B, 3), intact(0x07))
+    yield of("damaged entries in the order of the tags' numbers", [0xB7, 0x45, 0x1B, 0x07],
+             damaged(0xB7), damaged(0x45, 4), damaged(0x1B, 3), damaged(0x07, 2))
+    yield of("a damaged tag listed twice", [0x1B, 0x07], damaged(0x1B, 3), damaged(0x1B, 3), intact(0x07))
+
+    # passed over
+    for kind in (0, 14, 15, 0x0107, 0x0700, 65_535):
+        yield of("type %d that counts" % kind, [0x07], passed_over(0xB7, kind), intact(0x07), passed_over(0x45, kind))
+        yield of("type %d that sets a place" % kind, [0x1B, 0x07, 0x45],
+                 passed_over(0x45, kind), passed_over(0x07, kind), intact(0x1B), intact(0x07), intact(0x45))
+    yield of("a passed-over entry that takes a tag away", [0x07, 0x45],
+             intact(0x07), intact(0x45), passed_over(0x07), passed_over(0x45, 0))
+    yield of("an end at the first entry that is passed over", [0xB7, 0x45, 0x07],
+             intact(0xB7), passed_over(0x1B), intact(0x45), passed_over(0x200), intact(0x07))
+    yield of("a damaged value of a passed-over type that counts", [0x07],
+             (0xB7, 14, 100, b"", 4_294_967_295), intact(0x07), (0x45, 0, 100, b"", 4_294_967_295))
+    yield of("types 1 and 13 that don't count, or 0 and 14 that do", [0xB7, 0x07, 0x45],
+             passed_over(0x07, 0), intact(0xB7, 13), passed_over(0x1B, 14), intact(0x07, 1), intact(0x45, 13), passed_over(0xB7, 0))
+    yield of("any of these in one directory", [0xB7, 0x45, 0x07],
+             intact(0xB7), damaged(0x45, 4), passed_over(0x1B), intact(0x07), intact(0x45), passed_over(0x07), damaged(0xB7))
+
+    # no value, other tags, tag 0
+    yield of("an entry of no values that is not kept", [0x45, 0x07], (0x45, 7, 0, b""), intact(0x07), intact(0x45))
+    yield of("tag 0 that is listed", [0xB7, 0x07], intact(0), intact(0xB7), intact(0), damaged(0), intact(0x07), passed_over(0))
+    yield of("tag 0 alone that is counted", [], intact(0), intact(0), damaged(0), intact(0, 2))
+    yield of("tag 0 that takes places from the four", [0x1B, 0xB7, 0x45, 0x07],
+             *[intact(0)] * 5, intact(0x1B), intact(0xB7), intact(0x45), intact(0x07))
+    yield of("other tags that are taken for one of the four", [0x45, 0x1B],
+             *(intact(tag) for tag in (0x0700, 0x1B00, 0x4500, 0xB700, 0x0107, 0x071B, 0x45, 0xFFB7, 0x06, 0x1B, 0x08, 0xB8)))
+    yield of("an order by the values' places", [0xB7, 0x07], (0xB7, 7, 8, b"far away"), (0x07, 2, 8, b"", 8))
+
+    # the directory's place and end
+    yield of("an end before the last entry", [0x1B, 0x07], intact(0x200), intact(0x1B), intact(0x07))
+    yield "an end behind the last entry", [0x45, 0x07], block_of(
+        [intact(0x45), intact(0x07)], order, after=block_of([intact(0x1B)], order)[10:])
+    yield "a directory that is always read at 8", [0x45, 0xB7], elsewhere(
+        [intact(0x45), intact(0xB7)], [intact(0xB7), intact(0x07), intact(0x45)], order)
+
+
+def every_directory():
+    """These in both byte orders, and a long one."""
+    for order in ("big", "little"):
+        for case in directories(order):
+            yield order, *case
+    entries = [intact(0x300 + i) for i in range(258)]
+    entries[1], entries[256], entries[257] = intact(0xB7), intact(0x45), intact(0x07)
+    yield "little", "the last byte of a place for the place", [0xB7, 0x45, 0x07], block_of(entries, "little")
+
+
 def cases():
     line = ref.WHOLE_CASE.split(b"\n")[0].decode()
     whole = bytes.fromhex(line)[29:-1]
@@ -282,6 +386,13 @@ def cases():
     for mode in ((0, 0), (1, 0), (7, 193), (0, 5), (1, 5), (0, 8), (2, 8), (255, 197),
                  (0, 9), (3, 9), (0, 207), (1, 207), (2, 207), (3, 207), (193, 0)):
         yield "area mode (%d,%d)" % mode, recorded(b"0100", 30, mode=mode)
+
+
+    # contents
+    for order, wrong, tags, block in every_directory():
+        if ref.contents(block) != tags:
+            sys.exit("%s: by hand %s, the reference %s" % (wrong, tags, ref.contents(block)))
+        yield "contents %s, %s-endian; wrong: %s" % (" ".join(map(str, tags)) or "none", order, wrong), block
 
 
 def long_fronts():

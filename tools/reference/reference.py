@@ -1,15 +1,17 @@
 #!/usr/bin/env python3
 """The written rules of the picture sheet, read once more in plain Python.
 
-This file was written from the specification's text alone, so that it can
-disagree with the Rust library and with the proved program. It favours being
-read over being fast. Only the table of 39 points is copied from the source.
+This file was written from the text of the specification and of the changes
+requested later alone, so that it can disagree with the Rust library and with
+the proved program. It favours being read over being fast. Only the table of 39
+points is copied from the source.
 
   reference.py < SCRIPT          print what `focusdesk` prints for a script
   reference.py --loads < LOADS   print one answer a load line (RAW PICTURE
                                  MODELHEX BLOCKHEX), as tools/oracle does,
                                  but with `no N` for a refusal
-  reference.py --self-test       the specification's own examples
+  reference.py --self-test       the specification's own examples, and others
+                                 worked out by hand
 
 Sizes are pairs (width, height); a missing size is None. A point is the six
 numbers that `list` writes: number, x, y, width, height, in-focus.
@@ -352,12 +354,16 @@ def load(block, raw, picture, model):
 
 
 def contents(block):
-    """The four tags that have a kept entry, or refusal 1. Their order is
-    open; here it is the order of the tags' numbers."""
+    """Those of the four tags that have a kept entry, in the order of their
+    first kept entries in the directory; or refusal 1."""
     order = readable(block)
     if order is None:
         return no(1)
-    return [tag for tag in FOUR_TAGS if first_kept_entry(block, order, tag)]
+    met = []
+    for tag, _, _, _ in kept_entries(block, order):
+        if tag in FOUR_TAGS and tag not in met:
+            met.append(tag)
+    return met
 
 
 # ----------------------------------------------------------------- the book
@@ -627,6 +633,10 @@ def shorts(*numbers):
     return b"".join(number.to_bytes(2, "big") for number in numbers)
 
 
+# The field of a value of more than four bytes: an offset past the end of every block.
+DAMAGED = b"\xff" * 4
+
+
 def named_block(primary, length=30, crop=None):
     value = (b"0100\0\0\x03" + bytes([primary])).ljust(length, b"\0")[:length]
     entries = [(RECORD, 7, length, value)]
@@ -646,6 +656,9 @@ def self_test():
     def only_point(primary, picture=None, crop=None):
         placed = load(named_block(primary, crop=crop), None, picture, MODEL)
         return (placed.points[0].x, placed.points[0].y)
+
+    def contents_line(*entries):
+        return run_script(call_line(b"\x08", build_block(*entries)))
 
     def full_book():
         book = Book()
@@ -687,6 +700,23 @@ def self_test():
         ("an empty block", run_script(call_line(b"\x01", bytes(18))), "no 1\n"),
         ("contents", run_script(call_line(b"\x08", named_block(1, crop=dx))), "tags 2 27 183\n"),
         ("contents of no entries", run_script(call_line(b"\x08", build_block())), "tags 0\n"),
+        ("contents, the tags falling",
+         contents_line((RECORD, 7, 1, b"A"), (CROP_AREA, 4, 1, b"ABCD"), (CROP_HI_SPEED, 3, 1, b"AB"),
+                       (FOCUS_MODE, 2, 1, b"A")), "tags 4 183 69 27 7\n"),
+        ("contents, neither rising nor falling, other tags between",
+         contents_line((CROP_AREA, 3, 1, b"AB"), (0, 1, 1, b"A"), (RECORD, 7, 1, b"A"), (0x0700, 2, 1, b"A"),
+                       (FOCUS_MODE, 2, 1, b"A")), "tags 3 69 183 7\n"),
+        ("contents, tags repeated: the first entry places them",
+         contents_line((CROP_AREA, 3, 1, b"AB"), (FOCUS_MODE, 2, 1, b"A"), (CROP_AREA, 3, 1, b"AB"),
+                       (RECORD, 7, 1, b"A"), (FOCUS_MODE, 2, 1, b"A")), "tags 3 69 7 183\n"),
+        ("contents, a damaged entry is kept and places its tag",
+         contents_line((RECORD, 7, 30, DAMAGED), (FOCUS_MODE, 2, 7, DAMAGED), (CROP_HI_SPEED, 3, 1, b"AB"),
+                       (FOCUS_MODE, 2, 1, b"A")), "tags 3 183 7 27\n"),
+        ("contents, an entry that is passed over places nothing",
+         contents_line((CROP_AREA, 14, 1, b"A"), (RECORD, 0, 1, b"A"), (CROP_HI_SPEED, 3, 1, b"AB"),
+                       (CROP_AREA, 3, 1, b"AB")), "tags 2 27 69\n"),
+        ("contents, all passed over",
+         contents_line((RECORD, 65535, 1, b"A"), (FOCUS_MODE, 0, 1, b"A"), (CROP_AREA, 14, 1, b"A")), "tags 0\n"),
         ("64 edits stand", turns, ["ok"] * 64 + [no(8)]),
         ("back after them", [book.back() for _ in range(65)], ["ok"] * 64 + [no(11)]),
         ("a short buffer", book.list([9] * 5), no(13)),

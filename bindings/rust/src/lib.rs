@@ -258,15 +258,16 @@ pub fn script_into(script: &[u8], out: &mut [u8]) -> Result<usize, Refusal> {
     Ok(len)
 }
 
-/// Which of the tags 0x0007, 0x001B, 0x0045 and 0x00B7 have a kept entry in a maker note: each once, in an order that is open.
+/// Which of the tags 0x0007, 0x001B, 0x0045 and 0x00B7 have a kept entry in a maker note: each once, in the order of their first kept
+/// entries in the directory. Kept are the entries of types 1 to 13, damaged ones too.
 pub fn contents(block: &[u8]) -> Result<Vec<u16>, Refusal> {
     let mut out = [0; CONTENTS];
     contents_into(block, &mut out)?;
     Ok(out[1..=out[0] as usize].iter().map(|&tag| tag as u16).collect())
 }
 
-/// The same at a buffer's front: how many, and four places with the tags, of which the unused are 0. The rest of the buffer is kept, and all
-/// of it where the answer is a refusal. `CONTENTS` places are enough.
+/// The same at a buffer's front: how many, and four places with the tags, of which the unused are 0 and stand last. The rest of the buffer
+/// is kept, and all of it where the answer is a refusal. `CONTENTS` places are enough.
 pub fn contents_into(block: &[u8], out: &mut [u32]) -> Result<(), Refusal> {
     // SAFETY: as in `photograph_into`.
     let number =

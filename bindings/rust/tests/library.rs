@@ -1,5 +1,5 @@
 //! The wrapper against the specification's cases and the stored answers of the repository: the loads of `placing_test`, whose answers are
-//! the Rust original's, and the scripts of `focusdesk` and of demo/.
+//! the Rust original's, the blocks of `reading_test`, and the scripts of `focusdesk` and of demo/.
 
 use focuspoints::*;
 use std::fmt::Write;
@@ -200,6 +200,7 @@ fn scripts_are_answered_byte_for_byte() {
         ("demo/whole-case.txt", "demo/whole-case.out"),
         ("demo/dx-crop.txt", "demo/dx-crop.out"),
         ("demo/recorded.txt", "demo/recorded.out"),
+        ("demo/contents.txt", "demo/contents.out"),
         ("demo/refusals.txt", "demo/refusals.out"),
     ] {
         assert!(script(&stored(given)) == stored(wanted), "{given}");
@@ -271,11 +272,7 @@ fn contents_of_blocks() {
         (0x45, 3, 4, &[0; 8]),
         (0xB7, 7, 30, &r),
     ]);
-    let tags = |block: &[u8]| {
-        let mut tags = contents(block).unwrap();
-        tags.sort();
-        tags
-    };
+    let tags = |block: &[u8]| contents(block).unwrap();
     assert_eq!(tags(&all), [0x07, 0x1B, 0x45, 0xB7]);
     assert_eq!(tags(&whole_case()), [0xB7]);
     assert_eq!(tags(&block_of(&[(8, 2, 2, b"x\0")])), []);
@@ -297,6 +294,143 @@ fn contents_of_blocks() {
     assert_eq!(out, [1, 0xB7, 0, 0, 0, MARK, MARK]);
     assert_eq!(contents_into(&all[..7], &mut out), Err(Refusal::Unreadable));
     assert_eq!(out, [1, 0xB7, 0, 0, 0, MARK, MARK]);
+}
+
+/// A block of these entries, none with a value behind the directory: tag, type, count and field.
+fn directory(entries: &[(u16, u16, u32, u32)], little: bool) -> Vec<u8> {
+    let u16_of = |n: u16| if little { n.to_le_bytes() } else { n.to_be_bytes() };
+    let u32_of = |n: u32| if little { n.to_le_bytes() } else { n.to_be_bytes() };
+    let mut block = if little { b"II*\0" } else { b"MM\0*" }.to_vec();
+    block.extend(u32_of(8));
+    block.extend(u16_of(entries.len() as u16));
+    for &(tag, kind, count, field) in entries {
+        block.extend(u16_of(tag));
+        block.extend(u16_of(kind));
+        block.extend(u32_of(count));
+        block.extend(u32_of(field));
+    }
+    block
+}
+
+/// The tags of a block, in both byte orders: as they are given, and at the front of a buffer, in four places of which the last are 0.
+fn expect_contents(entries: &[(u16, u16, u32, u32)], tags: &[u16], wrong: &str) {
+    for block in [directory(entries, false), directory(entries, true)] {
+        assert_eq!(contents(&block).unwrap(), tags, "wrong: {wrong}");
+        let mut numbers = vec![tags.len() as u32];
+        numbers.extend(tags.iter().map(|&tag| tag as u32));
+        numbers.resize(CONTENTS, 0);
+        for places in [5, 6, 12] {
+            let mut out = vec![MARK; places];
+            assert_eq!(contents_into(&block, &mut out), Ok(()));
+            assert_eq!(out[..5], numbers, "wrong: {wrong}");
+            assert!(out[5..].iter().all(|&n| n == MARK), "wrong: {wrong}");
+        }
+    }
+}
+
+#[test]
+fn contents_come_in_the_directorys_order() {
+    let intact = |tag| (tag, 7, 4, 0x61626364);
+    let of_type = |tag, kind| (tag, kind, 1, 0x61626364);
+    // Five bytes, at the last offset that there is.
+    let damaged = |tag| (tag, 7, 5, u32::MAX);
+
+    // The four tags in each of their 24 orders.
+    let four = [0x07, 0x1B, 0x45, 0xB7];
+    for i in 0..256 {
+        let tags = [four[i >> 6], four[i >> 4 & 3], four[i >> 2 & 3], four[i & 3]];
+        if four.iter().all(|tag| tags.contains(tag)) {
+            expect_contents(&tags.map(intact), &tags, "an order other than the directory's");
+        }
+    }
+
+    // Repeated: the first entry places a tag.
+    let repeated = [0x45, 0xB7, 0x45, 0x07, 0xB7, 0x1B, 0x07, 0x45].map(intact);
+    expect_contents(&repeated, &[0x45, 0xB7, 0x07, 0x1B], "an end after four entries");
+    expect_contents(
+        &[0x07, 0x45, 0x07].map(intact),
+        &[0x07, 0x45],
+        "a tag placed by its last entry",
+    );
+    expect_contents(&[0x1B; 5].map(intact), &[0x1B], "a tag listed once for each entry");
+    // Damaged: such an entry is kept, and places its tag.
+    expect_contents(&[damaged(0xB7), intact(0x1B)], &[0xB7, 0x1B], "a damaged entry not kept");
+    expect_contents(
+        &[damaged(0x45), intact(0x07), intact(0x45)],
+        &[0x45, 0x07],
+        "a damaged entry without a place",
+    );
+    expect_contents(
+        &[intact(0x07), intact(0x45), damaged(0x07)],
+        &[0x07, 0x45],
+        "a tag moved by a damaged entry",
+    );
+    // Passed over: such an entry neither counts nor places its tag.
+    for kind in [0, 14, 0x0107, 0x0700, u16::MAX] {
+        expect_contents(
+            &[of_type(0xB7, kind), intact(0x07), of_type(0x45, kind)],
+            &[0x07],
+            "a passed-over type that counts",
+        );
+        expect_contents(
+            &[of_type(0x45, kind), intact(0x1B), intact(0x45), of_type(0x1B, kind)],
+            &[0x1B, 0x45],
+            "a passed-over type that sets a place",
+        );
+    }
+    for kind in 1..14 {
+        expect_contents(
+            &[(0x45, kind, 0, 0), intact(0x07), intact(0x45)],
+            &[0x45, 0x07],
+            "a type from 1 to 13 passed over",
+        );
+    }
+    // Tag 0 is none of the four, although unused places are 0.
+    expect_contents(&[0, 0xB7, 0, 0, 0, 0, 0x07].map(intact), &[0xB7, 0x07], "tag 0 listed");
+    expect_contents(&[intact(0), damaged(0)], &[], "tag 0 listed alone");
+}
+
+#[test]
+fn stored_blocks_have_their_contents() {
+    let blocks = String::from_utf8(stored("crates/reading_test/stdin")).unwrap();
+    let answers = String::from_utf8(stored("crates/reading_test/stdout")).unwrap();
+    let mut lines = answers.lines();
+    let bytes = |hex: &str| -> Vec<u8> {
+        (0..hex.len()).step_by(2).map(|i| u8::from_str_radix(&hex[i..i + 2], 16).unwrap()).collect()
+    };
+    let mut count = 0;
+    let mut expect = |block: &[u8], line: &str| {
+        let mut out = [MARK; 6];
+        // The last part of a line: the count and the four places, behind `tags` or `no 1`.
+        let part = line.rsplit(" | ").next().unwrap();
+        if let Some(numbers) = part.strip_prefix("tags ") {
+            assert_eq!(contents_into(block, &mut out), Ok(()), "{line}");
+            let printed: Vec<String> = out[..5].iter().map(|n| n.to_string()).collect();
+            assert_eq!(printed.join(" "), numbers, "{line}");
+            assert_eq!(out[5], MARK);
+        } else {
+            assert_eq!(part, "no 1 0 0 0 0 0", "{line}");
+            assert_eq!(contents_into(block, &mut out), Err(Refusal::Unreadable), "{line}");
+            assert_eq!(out, [MARK; 6]);
+        }
+        count += 1;
+    };
+    for line in blocks.lines() {
+        if line.starts_with('#') {
+            assert_eq!(lines.next(), Some(line));
+        } else if let Some(front) = line.strip_prefix('+') {
+            // The front of the longest block, and of one a byte longer.
+            let mut block = bytes(front);
+            for len in [1_048_576, 1_048_577] {
+                block.resize(len, 0);
+                expect(&block, lines.next().unwrap());
+            }
+        } else {
+            expect(&bytes(line), lines.next().unwrap());
+        }
+    }
+    assert_eq!(lines.next(), None);
+    println!("{count} blocks");
 }
 
 /// The answer's line as `placing_test` prints it.

@@ -1,47 +1,23 @@
 -- Which of the four tags a block has, in a buffer: their number, and four places with the tags.
 use Prim.Native.Nat.{ℕ}
-use mathlib.Core.Bool.{Bool, true, false}
 use mathlib.Core.List.{List, _∷_}
 use mathlib.Core.Path.{_≡_}
-use lib.Dec.{ltb}
-use lib.ListN.{getD, length, take, drop}
+use lib.ListN.{length}
 use Rattle.reading.specs.Outcome.{Outcome, refused, accepted}
-use Rattle.reading.specs.Contents.{Holds, keptTags}
-use Rattle.numbers.specs.declared.io.ByteOrder.{ByteOrder}
-use Rattle.reading.specs.declared.nikon.TagList.{TagList}
-use Rattle.reading.specs.declared.nikon.ContentsAnswer.{ContentsAnswer}
-use Rattle.reading.specs.declared.nikon.ContentsAnswer.the-variants.{Unreadable, Tags}
+use Rattle.reading.specs.Contents.{tagList}
 use Rattle.focuspoints.specs.Buffer.{roomNumber, withNumbers}
 
--- 1 where the block cannot be read, then 13
-abbrev pub numberBy : ContentsAnswer → ℕ → ℕ
-numberBy Unreadable room = 1
-numberBy Tags room = roomNumber 5 room
+-- 1 where the block cannot be read, 13 where a buffer of `room` places is too short, or 0
+unfoldable pub contentsNumber : Outcome (List ℕ) → ℕ → ℕ
+contentsNumber (refused n) room = n
+contentsNumber (accepted tags) room = roomNumber 5 room
 
-unfoldable pub contentsNumberOf : TagList → ℕ → ℕ
-contentsNumberOf r room = numberBy (r .answer) room
+-- 01's "count and tags", by 02 (2026-01) "in the order of their first kept entries in the directory", "unused places are still 0 and stand
+-- last": at the buffer's front, the rest kept; the whole buffer is kept where the number is not 0
+unfoldable pub contentsBuffer : Outcome (List ℕ) → List ℕ → List ℕ
+contentsBuffer (refused n) out = out
+contentsBuffer (accepted tags) out = withNumbers 5 (length tags ∷ tagList tags .tags) out
 
-abbrev pub bufferBy : ContentsAnswer → List ℕ → List ℕ → List ℕ
-bufferBy Unreadable five out = out
-bufferBy Tags five out = withNumbers 5 five out
-
--- "count and tags"; kept where the number is not 0
-unfoldable pub contentsBufferOf : TagList → List ℕ → List ℕ
-contentsBufferOf r out = bufferBy (r .answer) (r .count ∷ r .tags) out
-
--- ---- "each once, order open, unused places 0", of the buffer as it is left
--- the count is at its front, behind it the tags in four places, and the rest is kept
-pub record Told (wanted : List ℕ) (before after : List ℕ) : Type 0 where
-  pub tags : Holds wanted (getD after 0 0) (take 4 (drop 1 after))
-  pub rest : drop 5 after ≡ drop 5 before
-  pub same : length after ≡ length before
-
--- what a buffer that is too short, or not, is left with
-abbrev pub tellsIn : Bool → List ℕ → List ℕ → ℕ → List ℕ → Type 0
-tellsIn true wanted before n after = (n ≡ 13) × (after ≡ before)
-tellsIn false wanted before n after = (n ≡ 0) × Told wanted before after
-
--- the number that is returned, and the buffer after it: what every order of the tags has in common
-unfoldable pub Tells : Outcome ByteOrder → List ℕ → List ℕ → ℕ → List ℕ → Type 0
-Tells (refused m) s before n after = (n ≡ 1) × (after ≡ before)
-Tells (accepted o) s before n after = tellsIn (ltb (length before) 5) (keptTags o s) before n after
+-- what the call returns and leaves, of what contents comes to
+abbrev pub ContentsTold : Outcome (List ℕ) → List ℕ → ℕ → List ℕ → Type 0
+ContentsTold contents before r after = (r ≡ contentsNumber contents (length before)) × (after ≡ contentsBuffer contents before)

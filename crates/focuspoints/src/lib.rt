@@ -11,14 +11,13 @@ ghost use mathlib.Core.Path.{_≡_};
 ghost use mathlib.Core.List.{_∷_};
 ghost use Prim.Native.Nat.{_+_, _*_, _≤_};
 ghost use lib.ListN.{length};
-ghost use Rattle.reading.specs.Block.{blockOf};
 ghost use Rattle.reading.specs.Contents.{contentsOf};
 ghost use Rattle.placing.specs.Focus.{focusOf};
 ghost use Rattle.sheet.specs.Listing.{over, headNumbers};
 ghost use Rattle.script.specs.Script.{scriptText, bufferWith};
 ghost use Rattle.focuspoints.specs.Photograph.{givenSize, Photographed};
 ghost use Rattle.focuspoints.specs.Script.{scriptLength};
-ghost use Rattle.focuspoints.specs.Contents.{contentsNumberOf, contentsBufferOf, Tells};
+ghost use Rattle.focuspoints.specs.Contents.{ContentsTold};
 ghost use Rattle.focuspoints.specs.Buffer.{roomNumber, withNumbers};
 ghost use Rattle.focuspoints.specs.Inside.{laidNumbers};
 ghost use Rattle.placing.specs.Laid.{focusMeans};
@@ -136,14 +135,15 @@ fn put_tags(count: usize, tags: [u16; 4], out: &mut [u32]) -> u32
     0
 }
 
-// Which of the four tags a block has: 1 where it cannot be read, 13 where the buffer is too short, and 0 with their number and the
-// tags written.
+// Which of the four tags a block has, in the order of their first kept entries: 1 where it cannot be read, 13 where the buffer is too
+// short, and 0 with their number and the tags written.
 #[no_mangle]
 pub extern "C" fn focuspoints_contents(block: &[u8], out: &mut [u32]) -> u32
-    ensures { λ r. ⌜ (r ≡ contentsNumberOf (contentsOf (now (block .entry))) (length (now (out .entry)))) × (now (out .exit) ≡ contentsBufferOf (contentsOf (now (block .entry))) (now (out .entry))) × Tells (blockOf (now (block .entry))) (now (block .entry)) (now (out .entry)) r (now (out .exit)) ⌝ }
+    ensures { λ r. ⌜ ContentsTold (contentsOf (now (block .entry))) (now (out .entry)) r (now (out .exit)) ⌝ }
 {
-    let list = reading::nikon::contents(block);
-    let answer = list.answer;
+    let contents = reading::nikon::contents(block);
+    let answer = contents.answer;
+    let list = contents.list;
     match answer {
         ContentsAnswer::Unreadable => 1,
         ContentsAnswer::Tags => {

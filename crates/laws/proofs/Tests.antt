@@ -1,11 +1,11 @@
--- Tests: one is true or false, what holds either way holds of the choice, two joined by "and" or "or"; and the order of two numbers.
--- Assumes nothing.
+-- Tests: one is true or false, what holds either way holds of the choice, two joined by "and" or "or"; and two numbers that are equal, or
+-- in order. Assumes nothing.
 use Prim.Native.Nat.{ℕ, _<_, _≤_}
 use mathlib.Core.Bool.{Bool, true, false, _&&_, _||_, cond, false≢true}
 use mathlib.Core.Logic.{⊎-elim, _⊎_, inl, inr}
-use mathlib.Core.Path.{_≡_, refl, sym}
-use lib.Dec.{ltb}
-use borrow.Author.Tests.{ltb-true, ltb-false}
+use mathlib.Core.Path.{_≡_, refl, sym, _∙_}
+use lib.Dec.{ltb, eqb}
+use borrow.Author.Tests.{ltb-true, ltb-false, eqb-true, eqb-false, eq-eqb, ne-eqb}
 
 pub by-bool : (t : Bool) → (t ≡ true) ⊎ (t ≡ false)
 by-bool true = inl refl
@@ -18,6 +18,13 @@ by-cond P false f g = g refl
 
 pub by-order : (a b : ℕ) → (a < b) ⊎ (b ≤ a)
 by-order a b = ⊎-elim (λ e. inl (ltb-true a b e)) (λ e. inr (ltb-false a b e)) (by-bool (ltb a b))
+
+pub eqb-sym : (a b : ℕ) → eqb a b ≡ eqb b a
+eqb-sym a b =
+    ⊎-elim
+    (λ (e : eqb a b ≡ true). e ∙ sym (eq-eqb b a (sym (eqb-true a b e))))
+    (λ (e : eqb a b ≡ false). e ∙ sym (ne-eqb b a (λ (f : b ≡ a). eqb-false a b e (sym f))))
+    (by-bool (eqb a b))
 
 -- what holds of both holds of the one that a test picks
 pub either : {A : Type 0} (P : A → Type 0) (b : Bool) (x y : A) → P x → P y → P (cond b x y)

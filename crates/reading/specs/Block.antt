@@ -93,9 +93,13 @@ unfoldable pub entryOf : ByteOrder → List ℕ → ℕ → Found
 entryOf o s at =
     entryWith s (typeAt o s at) (countAt o s at) (countAt o s at * sizeOf (typeAt o s at)) (at + 8) (offsetAt o s at)
 
--- an entry of the tag that is kept: "other types are passed over"
+-- an entry is kept if its type is one of the 13, damaged or not: "other types are passed over"
+abbrev pub isKeptAt : ByteOrder → List ℕ → ℕ → Bool
+isKeptAt o s at = ltb 0 (sizeOf (typeAt o s at))
+
+-- a kept entry with the tag
 unfoldable pub hasTag : ByteOrder → List ℕ → ℕ → ℕ → Bool
-hasTag o s tag at = eqb (tagAt o s at) tag && ltb 0 (sizeOf (typeAt o s at))
+hasTag o s tag at = eqb (tagAt o s at) tag && isKeptAt o s at
 
 -- "The first kept entry with a tag counts, even if its type is wrong": of n entries from `at`
 unfoldable pub firstOf : ByteOrder → List ℕ → ℕ → ℕ → ℕ → Found

@@ -4,5 +4,6 @@ pub mod Focus
 pub mod Record
 pub mod Values
 pub mod Contents
+pub mod Laws
 pub mod Note
 pub mod Inside

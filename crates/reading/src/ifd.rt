@@ -1,10 +1,12 @@
-// A block, its directory (IFD), the first kept entry of a tag, and that entry's value.
+// A block, its directory (IFD), the first kept entry of a tag, that entry's value, and which of some tags have a kept entry.
 use numbers::io::ByteOrder;
 ghost use mathlib.Core.Path.{_≡_};
+ghost use mathlib.Core.Bool.{_&&_, not};
 ghost use Prim.Native.Nat.{_+_, _*_, _≤_, _<_};
 ghost use lib.ListN.{length, drop};
 ghost use Rattle.numbers.specs.Numbers.{u16Of};
-ghost use Rattle.reading.specs.Block.{blockMeans, blockOf, inOrder, directoryOf, entryOf, hasTag, firstOf, findOf, isKept, typeOf, countOf, valueOf};
+ghost use Rattle.reading.specs.Block.{blockMeans, blockOf, inOrder, directoryOf, entryOf, tagAt, isKeptAt, hasTag, firstOf, findOf, isKept, typeOf, countOf, valueOf};
+ghost use Rattle.reading.specs.Contents.{keptFrom, keptTags, isAmong, firstEach, tagList};
 
 // Whether a block can be read, and in which byte order.
 pub enum Block {
@@ -111,6 +113,14 @@ fn entry_at(block: &[u8], order: ByteOrder, at: usize) -> Found
     Found::Damaged { typ }
 }
 
+// Whether the entry at `at` is kept.
+fn is_kept_at(block: &[u8], order: ByteOrder, at: usize) -> bool
+    requires { ⌜ at + 12 ≤ length (now block) ⌝ }
+    ensures { λ r. ⌜ r ≡ isKeptAt order (now (block .entry)) at ⌝ }
+{
+    0 < crate::types::type_size(u16_at(block, at + 2, order))
+}
+
 // Whether the entry at `at` is kept and has the tag.
 fn has_tag(block: &[u8], order: ByteOrder, at: usize, tag: u16) -> bool
     requires { ⌜ at + 12 ≤ length (now block) ⌝ }
@@ -119,7 +129,7 @@ fn has_tag(block: &[u8], order: ByteOrder, at: usize, tag: u16) -> bool
     if u16_at(block, at, order) != tag {
         return false;
     }
-    0 < crate::types::type_size(u16_at(block, at + 2, order))
+    is_kept_at(block, order, at)
 }
 
 // The first kept entry with the tag, of `count` entries from `first`.
@@ -210,5 +220,73 @@ pub fn value_of(block: &[u8], found: Found) -> &[u8]
         } => numbers::io::head(numbers::io::tail(block, start), len),
         Found::Damaged { typ: _ } => numbers::io::head(block, 0),
         Found::Absent => numbers::io::head(block, 0),
+    }
+}
+
+// Some tags in four places: how many, and the tags; the places behind them are 0.
+pub struct TagList {
+    pub count: usize,
+    pub tags: [u16; 4],
+}
+
+// Whether a tag is among some.
+fn is_among(tag: u16, tags: &[u16]) -> bool
+    ensures { λ r. ⌜ r ≡ isAmong tag (now (tags .entry)) ⌝ }
+{
+    let mut i: usize = 0;
+    while i < tags.len() {
+        if tags[i] == tag {
+            return true;
+        }
+        i += 1;
+    }
+    false
+}
+
+// Whether the entry at `at` is kept, and is the first one of a wanted tag: of one that has not been met.
+fn is_first(block: &[u8], order: ByteOrder, at: usize, wanted: &[u16], met: &[u16]) -> bool
+    requires { ⌜ at + 12 ≤ length (now block) ⌝ }
+    ensures { λ r. ⌜ r ≡ (isAmong (tagAt order (now (block .entry)) at) (now (wanted .entry)) && not (isAmong (tagAt order (now (block .entry)) at) (now (met .entry))) && isKeptAt order (now (block .entry)) at) ⌝ }
+{
+    let tag = u16_at(block, at, order);
+    if !is_among(tag, wanted) {
+        return false;
+    }
+    if is_among(tag, met) {
+        return false;
+    }
+    is_kept_at(block, order, at)
+}
+
+// The wanted tags that have a kept entry, in the order of their first ones, of `count` entries from `first`.
+fn tags_from(block: &[u8], order: ByteOrder, first: usize, count: usize, wanted: &[u16]) -> TagList
+    requires { ⌜ (first + 12 * count ≤ length (now block)) × (length (now wanted) ≤ 4) ⌝ }
+    ensures { λ r. ⌜ r ≡ tagList (firstEach (now (wanted .entry)) (keptFrom order (now (block .entry)) first count)) ⌝ }
+{
+    let mut tags = [0u16; 4];
+    let mut met: usize = 0;
+    let mut at = first;
+    let mut left = count;
+    while 0 < left {
+        if is_first(block, order, at, wanted, &tags[..met]) {
+            tags[met] = u16_at(block, at, order);
+            met += 1;
+        }
+        at += 12;
+        left -= 1;
+    }
+    TagList { count: met, tags }
+}
+
+// The wanted tags that have a kept entry, in the order of their first ones in the directory; none where it passes the block's end.
+pub fn find_tags(block: &[u8], order: ByteOrder, wanted: [u16; 4]) -> TagList
+    ensures { λ r. ⌜ r ≡ tagList (firstEach wanted (keptTags order (now (block .entry)))) ⌝ }
+{
+    match parse_ifd(block, order) {
+        Ifd::Inside { first, count } => tags_from(block, order, first, count, &wanted),
+        Ifd::Outside => TagList {
+            count: 0,
+            tags: [0; 4],
+        },
     }
 }

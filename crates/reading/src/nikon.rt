@@ -4,15 +4,14 @@ use crate::geometry::OptionalSize;
 use crate::geometry::Point;
 use crate::geometry::Size;
 use crate::ifd::Block;
+use crate::ifd::TagList;
 use numbers::io::ByteOrder;
 ghost use mathlib.Core.Path.{_≡_};
 ghost use Prim.Native.Nat.{_<_};
 ghost use Rattle.numbers.specs.Bytes.{same};
-ghost use Rattle.reading.specs.Outcome.{numberOf};
-ghost use Rattle.reading.specs.Block.{blockOf};
 ghost use Rattle.reading.specs.Values.{upToZero, trimStart, trimEnd, isManual, manualFocusOf, numberAt, cropHiSpeedOf, isRectangle, insideRaw, cropAreaOf, afInfo2Of};
 ghost use Rattle.reading.specs.Record.{recordMeans};
-ghost use Rattle.reading.specs.Contents.{contentsNumber, keptTags, tagPlaces, contentsOf, ContentsOf};
+ghost use Rattle.reading.specs.Contents.{contentsOf, laidTags, contentsMeans};
 
 // FocusMode: text.
 pub const FOCUS_MODE: u16 = 0x0007;
@@ -236,48 +235,30 @@ pub enum ContentsAnswer {
     Tags,
 }
 
-// Which of the four tags have a kept entry: how many, and their numbers, in places of which the rest are 0.
-pub struct TagList {
+// Which of the four tags a note has, where it could be read: those that have a kept entry.
+pub struct NoteTags {
     pub answer: ContentsAnswer,
-    pub count: usize,
-    pub tags: [u16; 4],
+    pub list: TagList,
 }
 
 // The four tags.
 const TAGS: [u16; 4] = [FOCUS_MODE, CROP_HI_SPEED, CROP_AREA, AF_INFO2];
 
-// The tags that have a kept entry, in the order of TAGS.
-fn kept_tags(block: &[u8], order: ByteOrder) -> TagList
-    ensures { λ r. ⌜ r ≡ tagPlaces (keptTags order (now (block .entry))) ⌝ }
-{
-    let mut tags = [0u16; 4];
-    let mut count: usize = 0;
-    let mut i: usize = 0;
-    while i < 4 {
-        let tag = TAGS[i];
-        if crate::ifd::is_kept(crate::ifd::find_entry(block, order, tag)) {
-            tags[count] = tag;
-            count += 1;
-        }
-        i += 1;
-    }
-    TagList {
-        answer: ContentsAnswer::Tags,
-        count,
-        tags,
-    }
-}
-
-// Which of the four tags have a kept entry. 01 leaves their order open; here it is that of their numbers.
-pub fn contents(block: &[u8]) -> TagList
-    ensures { λ r. ⌜ (contentsNumber (r .answer) ≡ numberOf (blockOf (now (block .entry)))) × ContentsOf (blockOf (now (block .entry))) (now (block .entry)) r × (r ≡ contentsOf (now (block .entry))) ⌝ }
+// Which of the four tags have a kept entry, in the order of their first kept entries in the directory.
+pub fn contents(block: &[u8]) -> NoteTags
+    ensures { λ r. ⌜ contentsMeans r ≡ laidTags (contentsOf (now (block .entry))) ⌝ }
 {
     match crate::ifd::parse_block(block) {
-        Block::Readable(order) => kept_tags(block, order),
-        Block::Unreadable => TagList {
+        Block::Readable(order) => NoteTags {
+            answer: ContentsAnswer::Tags,
+            list: crate::ifd::find_tags(block, order, TAGS),
+        },
+        Block::Unreadable => NoteTags {
             answer: ContentsAnswer::Unreadable,
-            count: 0,
-            tags: [0; 4],
+            list: TagList {
+                count: 0,
+                tags: [0; 4],
+            },
         },
     }
 }

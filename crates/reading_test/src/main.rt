@@ -195,17 +195,19 @@ fn tag(n: u16) {
 
 // The tags, in all their places.
 fn contents(block: &[u8]) {
-    let list = reading::nikon::contents(block);
-    let answer = list.answer;
+    let contents = reading::nikon::contents(block);
+    let answer = contents.answer;
+    let list = contents.list;
     match answer {
         ContentsAnswer::Tags => text(b" | tags "),
         ContentsAnswer::Unreadable => text(b" | no 1 "),
     }
+    let tags = list.tags;
     number(b"", list.count as u64);
-    tag(list.tags[0]);
-    tag(list.tags[1]);
-    tag(list.tags[2]);
-    tag(list.tags[3]);
+    tag(tags[0]);
+    tag(tags[1]);
+    tag(tags[2]);
+    tag(tags[3]);
 }
 
 // What every reader answers for a block that can be read.

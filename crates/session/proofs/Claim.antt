@@ -14,7 +14,7 @@ use Rattle.journal.specs.Calls.{Call, journalStep, runJournal}
 use Rattle.journal.specs.SheetCalls.{sheetStep, runSheet}
 use Rattle.journal.proofs.Claim.{claim}
 use Rattle.session.specs.Lines.{Spelled, contents, asks, spelled}
-use Rattle.session.specs.Texts.{answerText, tagListText, textBy, journalNext, journalTexts}
+use Rattle.session.specs.Texts.{answerText, contentsText, textBy, journalNext, journalTexts}
 use Rattle.session.specs.Answering.{sheetNext, sheetTexts}
 use Rattle.session.specs.Claim.{LinesClaim}
 
@@ -31,7 +31,7 @@ callsOf (l ∷ ls) = calls (spelled l) (callsOf ls)
 -- a line's text, of the answers from its own on, and the answers after it
 firstText : Outcome Spelled → List Answer → List ℕ
 firstText (refused n) answers = noText n
-firstText (accepted (contents block)) answers = tagListText (contentsOf block)
+firstText (accepted (contents block)) answers = contentsText (contentsOf block)
 firstText (accepted (asks c)) [] = []
 firstText (accepted (asks c)) (a ∷ answers) = answerText a
 

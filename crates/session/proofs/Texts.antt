@@ -1,25 +1,24 @@
 -- The text of each answer is what the functions of `text` put: one law for each return of this crate. A listing has 39 points at the
 -- most (a usable sheet's count bounds it), contents four tags, so no text is longer than 2,700 characters. Assumes nothing.
-use Prim.Native.Nat.{ℕ, suc, _≤_, min}
+use Prim.Native.Nat.{ℕ, zero, suc, _-_, _≤_, min}
 use mathlib.Core.Bool.{true, cond}
-use mathlib.Core.List.{List, [], _∷_}
+use mathlib.Core.List.{List, [], _∷_, _++_}
 use mathlib.Core.Path.{_≡_, refl, ap, _∙_}
-use lib.ListN.{length}
+use lib.ListN.{length, replicate, List·getD-append}
 use native.Mathlib.Nat.{min-eq-left}
 use native.Mathlib.Omega.{arith}
 use borrow.Author.Tests.{eq-eqb, ne-eqb}
-use Rattle.answers.specs.Answers.{okText, noText, tagsText, headText, pointsText}
+use Rattle.answers.specs.Answers.{okText, noText, spacedAll, tagsText, headText, pointsText}
 use Rattle.text.specs.Put.{Put, Puts}
 use Rattle.text.proofs.Laws.{_▹_, at-most}
 use Rattle.laws.proofs.Tests.{by-cond}
 use Rattle.reading.specs.Outcome.{Outcome, refused, accepted, numberOf}
-use Rattle.reading.specs.Block.{blockOf, findOf, isKept}
 use Rattle.reading.specs.Focus.{modeNumber}
-use Rattle.reading.specs.Contents.{contentsOf, contentsIn, fourTags, keptAmong, keptTags}
-use Rattle.numbers.specs.declared.io.ByteOrder.{ByteOrder}
+use Rattle.reading.specs.Contents.{contentsOf, laidTags, contentsMeans}
+use Rattle.reading.proofs.ListedTags.{FourIn, few-listed, unreadable-is, tags-are}
 use Rattle.reading.specs.declared.geometry.Size.{Size}
 use Rattle.reading.specs.declared.geometry.OptionalSize.{OptionalSize}
-use Rattle.reading.specs.declared.nikon.TagList.{TagList}
+use Rattle.reading.specs.declared.nikon.NoteTags.{NoteTags}
 use Rattle.reading.specs.declared.nikon.ContentsAnswer.the-variants as contents-answers
 use Rattle.placing.specs.Fit.{hasZeroSide}
 use Rattle.placing.specs.Load.{originNumber}
@@ -50,7 +49,7 @@ use Rattle.journal.specs.Calls.{Call, load, list, fit}
 use Rattle.journal.specs.SheetCalls.{afterEdit, sheetStep}
 use Rattle.session.specs.declared.Stepped.{Stepped}
 use Rattle.session.specs.Lines.{contents, asks, spelledBy, spelledIn, lentBuffer}
-use Rattle.session.specs.Texts.{givenText, outcomeText, answerText, tagListText}
+use Rattle.session.specs.Texts.{givenText, outcomeText, answerText, contentsText}
 use Rattle.session.specs.Answering.{mostText, Answers}
 use Rattle.session.specs.Inside.{atMost39, numberText}
 
@@ -78,6 +77,12 @@ unfolding numberText givenText loadMeans
 load-number load-answer.Accepted = refl
 load-number (load-answer.Refused why) = refusal-number why
 
+-- the first numbers of a list, with more behind it
+spaced-front : (ws vs : List ℕ) (n : ℕ) → n ≤ length ws → spacedAll (ws ++ vs) n ≡ spacedAll ws n
+unfolding spacedAll
+spaced-front ws vs zero h = refl
+spaced-front ws vs (suc n) h = rw (spaced-front ws vs n (omega arith), List·getD-append ws vs 0 n (omega arith))
+
 module _ {o o₁ : List ℕ} {a a₁ : ℕ} where
   -- ---- a number
   pub outcome-ok : (n : ℕ) → n ≡ 0 → Put o a okText o₁ a₁ → Puts o a (numberText n) 14 o₁ a₁
@@ -103,14 +108,18 @@ module _ {o o₁ : List ℕ} {a a₁ : ℕ} where
   listing-text l ws hs e h p q = at-most (rw e at p ▹ rw (min-eq-left h) at q) (omega arith)
 
   -- ---- contents
-  pub contents-no : (r : TagList) → r .answer ≡ contents-answers.Unreadable → Puts o a (noText 1) 14 o₁ a₁ → Puts o a (tagListText r) mostText o₁ a₁
-  unfolding tagListText
-  contents-no r e p = rw e (at-most p (omega arith))
+  pub contents-no : (r : NoteTags) (x : Outcome (List ℕ)) → contentsMeans r ≡ laidTags x → r .answer ≡ contents-answers.Unreadable
+      → Puts o a (noText 1) 14 o₁ a₁ → Puts o a (contentsText x) mostText o₁ a₁
+  unfolding contentsText
+  contents-no r x e f p = unreadable-is r (λ (y : Outcome (List ℕ)). Puts o a (contentsText y) mostText o₁ a₁) f (at-most p (omega arith)) x e
 
-  pub contents-yes : (r : TagList) → r .answer ≡ contents-answers.Tags → r .count ≤ 4 → Puts o a (tagsText (min (r .count) 4) (r .tags)) 60 o₁ a₁
-      → Puts o a (tagListText r) mostText o₁ a₁
-  unfolding tagListText
-  contents-yes r e h p = rw e (at-most (rw (min-eq-left h) at p) (omega arith))
+  pub contents-yes : (r : NoteTags) (x : Outcome (List ℕ)) → contentsMeans r ≡ laidTags x → FourIn x → r .answer ≡ contents-answers.Tags
+      → Puts o a (tagsText (min (r .list .count) 4) (r .list .tags)) 60 o₁ a₁ → Puts o a (contentsText x) mostText o₁ a₁
+  unfolding contentsText tagsText
+  contents-yes r x e h f p =
+      let q = rw (min-eq-left (few-listed r x h e)) at p in
+      tags-are r (λ (y : Outcome (List ℕ)). Puts o a (contentsText y) mostText o₁ a₁) f
+      (λ ts l. at-most (rw (l, spaced-front ts (replicate (4 - length ts) 0) (length ts) (omega arith)) at q) (omega arith)) x e
 
   -- ---- cut, turn, mirror and back
   pub edit-text : (e : Edited) (n : ℕ) → n ≡ numberOf (editMeans (e .answer)) → Puts o a (numberText n) 14 o₁ a₁
@@ -123,7 +132,7 @@ pub head-is : (l : ListHead) (m n : ℕ) → m ≡ modeNumber (l .mode) → n �
 unfolding headNumbers
 head-is l m n e f = rw (e, f)
 
--- ---- few points, few tags
+-- ---- few points
 most-listed : (s : Sheet) (f : Size) (m : ℕ) → usable s ≡ true → atMost39 (cond (isShort s m) (refused 13) (accepted (headNumbers (headIn f s))))
 unfolding headNumbers headIn listCount listIndex listing
 most-listed s f m h =
@@ -145,26 +154,11 @@ pub most-of-listed : (x : ListAnswer) (l : ListHead) → x ≡ Listed l → atMo
 unfolding headNumbers
 most-of-listed x l e h = rw e at h
 
-kept-few : (o : ByteOrder) (s ts : List ℕ) → length (keptAmong o s ts) ≤ length ts
-unfolding keptAmong
-kept-few o s [] = omega arith
-kept-few o s (t ∷ ts) =
-    by-cond (λ (l : List ℕ). length l ≤ suc (length ts)) (isKept (findOf o s t))
-    (λ h. omega (arith, kept-few o s ts)) (λ h. omega (arith, kept-few o s ts))
-
-few-tags : (b : Outcome ByteOrder) (s : List ℕ) → contentsIn b s .count ≤ 4
-unfolding contentsIn keptTags
-few-tags (refused n) s = omega arith
-few-tags (accepted o) s = kept-few o s fourTags
-
-pub contents-few : (s : List ℕ) (r : TagList) → r ≡ contentsOf s → r .count ≤ 4
-contents-few s r e = rw e (few-tags (blockOf s) s)
-
 -- ---- what answering leaves
 module _ {o o₁ : List ℕ} {a a₁ : ℕ} (s : Sheet) where
-  pub answered-contents : (block : List ℕ) (r : TagList) → r ≡ contentsOf block → Puts o a (tagListText r) mostText o₁ a₁
+  pub answered-contents : (block : List ℕ) → Puts o a (contentsText (contentsOf block)) mostText o₁ a₁
       → Answers s (accepted (contents block)) o a o₁ (record { sheet = s; at = a₁ })
-  answered-contents block r e p = let q = rw e at p in record { left = refl; put = q .0; short = q .1 }
+  answered-contents block p = record { left = refl; put = p .0; short = p .1 }
 
   pub answered-list : (x : ListAnswer) (z ws : List ℕ) → z ≡ lentBuffer → listMeans x ≡ listOutcome s (length z) → ws ≡ listBuffer s z
       → Puts o a (outcomeText (listMeans x) ws) mostText o₁ a₁

@@ -1,13 +1,10 @@
 -- 01, "After the sheet": what is printed, and what the journal (01's book) alone has printed for lines. Nothing of the sheet stands here.
 use Prim.Native.Nat.{ℕ}
-use mathlib.Core.Bool.{cond}
 use mathlib.Core.List.{List, [], _∷_, _++_}
-use lib.Dec.{eqb}
-use lib.ListN.{getD}
+use lib.ListN.{getD, length}
 use Rattle.answers.specs.Answers.{okText, noText, tagsText, headText, pointsText}
 use Rattle.reading.specs.Outcome.{Outcome, refused, accepted}
-use Rattle.reading.specs.Contents.{contentsNumber, contentsOf}
-use Rattle.reading.specs.declared.nikon.TagList.{TagList}
+use Rattle.reading.specs.Contents.{contentsOf}
 use Rattle.journal.specs.Journal.{Journal, Answer}
 use Rattle.journal.specs.Calls.{Call, journalStep}
 use Rattle.session.specs.Lines.{Spelled, contents, asks, spelled}
@@ -27,15 +24,15 @@ outcomeText (accepted given) buffer = givenText given buffer
 abbrev pub answerText : Answer → List ℕ
 answerText a = outcomeText (a .outcome) (a .buffer)
 
--- "`tags` with count and tags", or `no 1`
-unfoldable pub tagListText : TagList → List ℕ
-tagListText r =
-    cond (eqb (contentsNumber (r .answer)) 0) (tagsText (r .count) (r .tags)) (noText (contentsNumber (r .answer)))
+-- "`tags` with count and tags in decimal (unused places not printed)", or `no 1`
+unfoldable pub contentsText : Outcome (List ℕ) → List ℕ
+contentsText (refused n) = noText n
+contentsText (accepted tags) = tagsText (length tags) tags
 
 -- of what a line spells, where `answers` gives what a call is answered: "a malformed line gives 14 and nothing else of it is tested"
 abbrev pub textBy : (Call → Answer) → Outcome Spelled → List ℕ
 textBy answers (refused n) = noText n
-textBy answers (accepted (contents block)) = tagListText (contentsOf block)
+textBy answers (accepted (contents block)) = contentsText (contentsOf block)
 textBy answers (accepted (asks c)) = answerText (answers c)
 
 -- ---- the journal

@@ -9,7 +9,6 @@ use sheet::Sheet;
 use sheet::listing::ListAnswer;
 use sheet::listing::ListHead;
 ghost use mathlib.Core.Path.{_≡_};
-ghost use mathlib.Core.List.{[]};
 ghost use Prim.Native.Nat.{_≤_};
 ghost use lib.ListN.{length};
 ghost use Rattle.text.specs.Put.{Puts};
@@ -146,8 +145,9 @@ fn answer_load(
 fn answer_contents(sheet: Sheet, block: &[u8], out: &mut [u8], at: usize) -> Stepped
     ensures { λ r. ⌜ Answers sheet (accepted (contents (now (block .entry)))) (now (out .entry)) at (now (out .exit)) r ⌝ }
 {
-    let list = reading::nikon::contents(block);
-    let answer = list.answer;
+    let contents = reading::nikon::contents(block);
+    let answer = contents.answer;
+    let list = contents.list;
     let tags = list.tags;
     match answer {
         ContentsAnswer::Unreadable => Stepped {

@@ -1,8 +1,10 @@
-//! Times one load on both sides, a listing behind edits, and the lines that focusdesk answers in a second. Prints a table in Markdown.
+//! Times one load on both sides, a block's contents beside a plain loop, a listing behind edits, and the lines that focusdesk answers in a
+//! second. Prints tables in Markdown.
 //! Usage: bench REPOSITORY, the folder that has crates/ and target/bin/focusdesk. With a KIND of loads behind it, which is named, recorded
 //! or refused, it times nothing: it answers those loads and prints how many calls that took, for tools/bench/count.
 
 mod blocks;
+mod contents;
 
 use std::env;
 use std::fs::{self, File};
@@ -28,13 +30,13 @@ fn shortest(mut work: impl FnMut()) -> Duration {
     rounds.min().unwrap()
 }
 
-/// Nanoseconds a load, of as many passes over the loads as take some tenths of a second.
-fn nanoseconds_a_load(loads: &[Load], mut one: impl FnMut(&Load)) -> f64 {
-    let mut pass = || loads.iter().for_each(&mut one);
+/// Nanoseconds for each of some loads or blocks, of as many passes over them as take some tenths of a second.
+fn nanoseconds_each<T>(all: &[T], mut one: impl FnMut(&T)) -> f64 {
+    let mut pass = || all.iter().for_each(&mut one);
     let once = shortest(&mut pass).as_secs_f64();
     let passes = (0.2 / once).ceil() as usize;
-    let all = shortest(|| (0..passes).for_each(|_| pass()));
-    all.as_secs_f64() * 1e9 / (passes * loads.len()) as f64
+    let time = shortest(|| (0..passes).for_each(|_| pass()));
+    time.as_secs_f64() * 1e9 / (passes * all.len()) as f64
 }
 
 fn original(load: &Load) -> Answer {
@@ -52,13 +54,29 @@ fn loads_row(name: &str, loads: &[Load]) {
     for load in loads {
         assert_eq!(matches!(original(load), Answer::Placed(_)), ours(load, &mut out), "{name}");
     }
-    let theirs = nanoseconds_a_load(loads, |load| {
+    let theirs = nanoseconds_each(loads, |load| {
         black_box(original(black_box(load)));
     });
-    let own = nanoseconds_a_load(loads, |load| {
+    let own = nanoseconds_each(loads, |load| {
         black_box(ours(black_box(load), &mut out));
     });
     println!("| {name} | {} | {theirs:.0} | {own:.0} | {:.1} |", loads.len(), theirs / own);
+}
+
+/// Both sides must give the same tags before their times mean anything.
+fn contents_row(name: &str, blocks: &[Vec<u8>]) {
+    let mut out = [0; focuspoints::CONTENTS];
+    for block in blocks {
+        let read = focuspoints::contents_into(block, &mut out).is_ok();
+        assert_eq!(contents::plain(block), read.then_some(out), "{name}");
+    }
+    let plain = nanoseconds_each(blocks, |block| {
+        black_box(contents::plain(black_box(block)));
+    });
+    let own = nanoseconds_each(blocks, |block| {
+        black_box(focuspoints::contents_into(black_box(block), black_box(&mut out)).is_ok());
+    });
+    println!("| {name} | {} | {plain:.0} | {own:.0} | {:.1} |", blocks.len(), own / plain);
 }
 
 /// Answers the loads by this library alone, some times over, and prints the number of calls.
@@ -122,6 +140,16 @@ fn main() {
     let large = |loads: &[Load]| -> Vec<Load> { loads.iter().take(200).map(grown).collect() };
     loads_row("named points, blocks of 60 KB with 60 entries", &large(&named));
     loads_row("recorded positions, blocks of 60 KB with 60 entries", &large(&recorded));
+    println!();
+    println!("| contents of | blocks | a plain loop in Rust, ns a block | here, ns a block | times as long |");
+    println!("|---|---|---|---|---|");
+    let small: Vec<Vec<u8>> = all.iter().map(|load| load.block.clone()).collect();
+    contents_row("small blocks", &small);
+    let grown: Vec<Vec<u8>> = large(&named).into_iter().map(|load| load.block).collect();
+    contents_row("blocks of 60 KB with 60 entries", &grown);
+    let reversed: Vec<Vec<u8>> = grown.iter().map(|block| contents::reversed(block)).collect();
+    contents_row("the same with the entries the other way round", &reversed);
+    contents_row("65,535 entries with none of the four tags", &[contents::longest()]);
     println!();
     println!("| edits that stand | a listing of 39 points by focusdesk, µs |");
     println!("|---|---|");

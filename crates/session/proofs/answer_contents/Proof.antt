@@ -1,4 +1,5 @@
 -- `answer_contents`: by cases on whether the block can be read. Assumes nothing.
+use Rattle.reading.proofs.ListedTags.{four-in}
 use Rattle.session.proofs.Texts as texts
 use borrow.Author.Needs.{needs}
 use Rattle.session.proofs.answer_contents.Statement.{statement}
@@ -26,13 +27,13 @@ same-length : tie.Need-same-length
 same-length c = search needs
 
 returns : tie.Need-returns
-returns c = texts.answered-contents _ _ _ ((c .before .before .before .before .before .before .before .contents .ensures .2)) (texts.contents-no _ (c .before .before .before .before .enum-told .given .1) (c .before .before .put-no .ensures))
+returns c = texts.answered-contents _ _ (texts.contents-no _ _ (c .before .before .before .before .before .before .before .before .contents .ensures) (c .before .before .before .before .enum-told .given .1) (c .before .before .put-no .ensures))
 
 same-length-2 : tie.Need-same-length-2
 same-length-2 c = search needs
 
 returns-2 : tie.Need-returns-2
-returns-2 c = texts.answered-contents _ _ _ ((c .before .before .before .before .before .before .before .before .contents .ensures .2)) (texts.contents-yes _ (c .before .before .before .before .before .enum-told2 .given .1) (texts.contents-few _ _ ((c .before .before .before .before .before .before .before .before .contents .ensures .2))) (c .before .before .put-tags .ensures))
+returns-2 c = texts.answered-contents _ _ (texts.contents-yes _ _ (c .before .before .before .before .before .before .before .before .before .contents .ensures) (four-in _) (c .before .before .before .before .before .enum-told2 .given .1) (c .before .before .put-tags .ensures))
 
 pub answer-contents-spec : {M : Type 1} → statement M
 answer-contents-spec =

@@ -1,36 +1,27 @@
--- `nikon::contents`: what is collected holds each kept tag once, and then zeros, whatever order it is in. Assumes nothing.
-use mathlib.Core.Path.{_≡_, refl, ap}
-use mathlib.Core.List.{List, [], _++_}
-use Prim.Native.Nat.{ℕ, _-_}
-use lib.ListN.{length, replicate}
-use lib.Seq.{take-append-seam, drop-append-seam}
+-- `nikon::contents`: by whether the block can be read. Assumes nothing.
+use mathlib.Core.List.{List, []}
+use mathlib.Core.Path.{_≡_}
+use Prim.Native.Nat.{ℕ}
 use denote.Ref.{now}
-use Rattle.reading.specs.Outcome.{Outcome, refused, accepted, numberOf}
+use Rattle.reading.specs.Outcome.{refused, accepted}
 use Rattle.reading.specs.Block.{blockOf}
-use Rattle.reading.specs.Contents.{contentsNumber, Holds, ContentsOf, contentsIn, keptTags, tagPlaces, times}
+use Rattle.reading.specs.Contents.{tagsOf, contentsOf, tagList, laidTags, contentsMeans}
 use Rattle.numbers.specs.declared.io.ByteOrder.{ByteOrder}
-use Rattle.reading.specs.declared.nikon.TagList.{TagList}
+use Rattle.reading.specs.declared.ifd.TagList.{TagList}
+use Rattle.reading.specs.declared.nikon.ContentsAnswer.the-variants.{Unreadable, Tags}
 use borrow.Author.Needs.{needs}
 use Rattle.reading.proofs.nikon.contents.Statement.{statement}
 use Rattle.reading.proofs.nikon.contents.Tie as tie
 
-holds : (ts : List ℕ) → Holds ts (length ts) (ts ++ replicate (4 - length ts) 0)
-holds ts =
-    record {
-      counted = refl;
-      each = λ t. ap (times t) (take-append-seam ts (replicate (4 - length ts) 0));
-      zeros = drop-append-seam ts (replicate (4 - length ts) 0);
-    }
+module _ (s : List ℕ) where
+  read : (o : ByteOrder) → accepted o ≡ blockOf s → (ts : TagList) → ts ≡ tagList (tagsOf o s)
+      → contentsMeans (record { answer = Tags; list = ts }) ≡ laidTags (contentsOf s)
+  unfolding contentsOf laidTags
+  read o e ts et = rw (← e, et)
 
-read : (s : List ℕ) (o : ByteOrder) (b : Outcome ByteOrder) (r : TagList) → accepted o ≡ b → r ≡ tagPlaces (keptTags o s) →
-    (contentsNumber (r .answer) ≡ numberOf b) × ContentsOf b s r × (r ≡ contentsIn b s)
-unfolding ContentsOf contentsIn
-read s o b r e er = rw (← e, er) (refl, holds (keptTags o s), refl)
-
-unread : (s : List ℕ) (b : Outcome ByteOrder) (r : TagList) → refused 1 ≡ b → r ≡ contentsIn (refused 1) s →
-    (contentsNumber (r .answer) ≡ numberOf b) × ContentsOf b s r × (r ≡ contentsIn b s)
-unfolding ContentsOf contentsIn
-unread s b r e er = rw (← e, er) (refl, holds [], refl)
+  unread : refused 1 ≡ blockOf s → contentsMeans (record { answer = Unreadable; list = tagList [] }) ≡ laidTags (contentsOf s)
+  unfolding contentsOf laidTags
+  unread e = rw (← e)
 
 parse-block-requires : tie.Need-parse-block-requires
 parse-block-requires c κs = search needs
@@ -38,20 +29,20 @@ parse-block-requires c κs = search needs
 enum-known-order : tie.Need-enum-known-order
 enum-known-order c = search needs
 
-kept-tags-requires : tie.Need-kept-tags-requires
-kept-tags-requires c κs = search needs
+find-tags-requires : tie.Need-find-tags-requires
+find-tags-requires c κs = search needs
 
 enum-told : tie.Need-enum-told
 enum-told c = search needs
 
 returns : tie.Need-returns
-returns c = read (now (c .before .before .before .before .before .before .args .block)) _ (blockOf (now (c .before .before .before .before .before .before .args .block))) _ (rw (c .before .before .order .given .1) at (c .before .before .before .before .parse-block .ensures)) (c .kept-tags .ensures)
+unfolding tagsOf
+returns c = read (now (c .before .before .before .before .before .before .args .block)) _ (rw (c .before .before .order .given .1) at (c .before .before .before .before .parse-block .ensures)) _ (c .find-tags .ensures)
 
 returns-2 : tie.Need-returns-2
-unfolding contentsIn
-returns-2 c = unread (now (c .before .before .before .before .args .block)) (blockOf (now (c .before .before .before .before .args .block))) _ (rw (c .enum-told .given .1) at (c .before .before .parse-block .ensures)) refl
+returns-2 c = unread (now (c .before .before .before .before .args .block)) (rw (c .enum-told .given .1) at (c .before .before .parse-block .ensures))
 
 pub contents-spec : {M : Type 1} → statement M
 contents-spec =
     tie.close
-    (tie.spec parse-block-requires enum-known-order kept-tags-requires enum-told returns returns-2)
+    (tie.spec parse-block-requires enum-known-order find-tags-requires enum-told returns returns-2)
