@@ -40,7 +40,7 @@ static const uint8_t none[10] = "MM\0*\0\0\0\x08\0\0";
 #define LOAD \
     "0100000000000000000000000000000000000A4E494B4F4E20443630304D4D002A00000008000100B700070000001E0000001630313030" \
     "000003010180000000000000000000000000000000000000000077\n"
-#define TURN "03FD\n"
+#define TURN "0906F1\n" /* orientation 6 */
 #define LIST "06FA\n"
 
 static const char whole_case[] = LOAD TURN "020000076C00000B5400000190000001900A\n" LIST;
@@ -51,6 +51,11 @@ static const char answers[] =
     "ok\n"
     "frame 400 400 points 1 primary 0 mode 1 origin 2\n"
     "1 109 108 164 164 0\n";
+
+/* Orientations outside 1 to 8, of which the first is 7 before it is 15; then malformed lines: the codes that turn and mirror had, no
+ * number, two numbers. */
+static const char refused[] = "0900F7\n" LOAD "0900F7\n" "0909EE\n" "09FFF8\n" "03FD\n" "04FC\n" "09F7\n" "090606EB\n";
+static const char refusals[] = "no 7\nok\nno 15\nno 15\nno 15\nno 14\nno 14\nno 14\nno 14\n";
 
 static uint32_t out[1000];
 
@@ -137,6 +142,8 @@ static void script(void)
     EXPECT(focuspoints_script((const uint8_t *)whole_case, sizeof whole_case - 2, text, sizeof text) == len);
     EXPECT(focuspoints_script(BYTES(""), text, 0) == 0);
     EXPECT(focuspoints_script(BYTES("\n"), text, sizeof text) == 6 && memcmp(text, "no 14\n", 6) == 0);
+    EXPECT(focuspoints_script(BYTES(refused), text, sizeof text) == sizeof refusals - 1);
+    EXPECT(memcmp(text, refusals, sizeof refusals - 1) == 0);
 }
 
 static void contents(void)

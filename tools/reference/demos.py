@@ -34,13 +34,13 @@ def at(length, places):
 
 
 def whole_case():
-    # The primary is 1; the mask, 01 80, marks 1 and 16. Turned in the frame of 6016 by 4016, (x, y) is at (4016 - y, x):
-    # 1 at (2009, 3008), 16 at (2009, 3486). The cut is 400 by 400 from (1900, 2900): 1 is at (109, 108), and 16, at
-    # (109, 586), is unlisted.
+    # The primary is 1; the mask, 01 80, marks 1 and 16. Orientation 6 is one turn: in the frame of 6016 by 4016, (x, y) goes to
+    # (4016 - y, x), 1 to (2009, 3008) and 16 to (2009, 3486). The cut is 400 by 400 from (1900, 2900): 1 is at (109, 108), and
+    # 16, at (109, 586), is unlisted.
     yield from zip(
         ["0100000000000000000000000000000000000A4E494B4F4E20443630304D4D002A00000008000100B700070000001E0000001630313030"
          "000003010180000000000000000000000000000000000000000077",
-         "03FD", "020000076C00000B5400000190000001900A", "06FA"],
+         "0906F1", "020000076C00000B5400000190000001900A", "06FA"],
         ["ok", "ok", "ok", "frame 400 400 points 1 primary 0 mode 1 origin 2\n1 109 108 164 164 0"])
 
 
@@ -68,12 +68,12 @@ def dx_crop():
     shown = ("frame 3936 2624 points 3 primary 1 mode 3 origin 2\n"
              "1 1968 1311 164 164 0\n27 3163 1612 164 164 0\n38 772 1009 164 164 0")
     yield script.LIST, shown
-    # A turn: (x, y) goes to (2624 - y, x), in the frame 2624 by 3936.
-    yield script.TURN, "ok"
+    # Orientation 6, a turn: (x, y) goes to (2624 - y, x), in the frame 2624 by 3936.
+    yield script.orient(6), "ok"
     yield script.LIST, ("frame 2624 3936 points 3 primary 1 mode 3 origin 2\n"
                         "1 1313 1968 164 164 0\n27 1012 3163 164 164 0\n38 1615 772 164 164 0")
-    # A mirror: (2624 - x, y). Turned and mirrored, every (x, y) of the load is at (y, x).
-    yield script.MIRROR, "ok"
+    # Orientation 2, a mirror: (2624 - x, y). Turned and mirrored, every (x, y) of the load is at (y, x).
+    yield script.orient(2), "ok"
     yield script.LIST, ("frame 2624 3936 points 3 primary 1 mode 3 origin 2\n"
                         "1 1311 1968 164 164 0\n27 1612 3163 164 164 0\n38 1009 772 164 164 0")
     # A cut from (1200, 1800): 1 at (111, 168) and 27 at (412, 1363) fit 700 by 1500, as 82 <= 111, 82 <= 168, 412 + 82 <= 700
@@ -158,6 +158,34 @@ def recorded():
     yield script.LIST, "frame 6048 3402 points 1 primary 0 mode 2 origin 1\n0 3024 685 320 240 1"
 
 
+def orientations():
+    # A position recorded in 6000 by 4000, at (1000, 700), with an area of 400 by 200. In a frame of w by h a mirror takes (x, y)
+    # to (w - x, y), and a turn takes it to (h - y, x) and swaps the sides of frame and area. Step by step:
+    position = ((6000, 4000), (1000, 700), (400, 200))
+    yield script.load(recorded_block(b"0101", "big", position, 1, (0, 0), []), None, None, b"NIKON D4"), "ok"
+    upright = "frame 6000 4000 points 1 primary 0 mode 1 origin 1\n0 %d %d 400 200 2"
+    on_its_side = "frame 4000 6000 points 1 primary 0 mode 1 origin 1\n0 %d %d 200 400 2"
+    for number, shown in (
+        (1, upright % (1000, 700)),
+        (2, upright % (5000, 700)),  # mirror: (6000 - 1000, 700)
+        (3, upright % (5000, 3300)),  # turn: (4000 - 700, 1000) = (3300, 1000); turn: (6000 - 1000, 3300)
+        # mirror: (5000, 700); turn: (4000 - 700, 5000) = (3300, 5000); turn: (6000 - 5000, 3300)
+        (4, upright % (1000, 3300)),
+        (5, on_its_side % (700, 1000)),  # the same, and a turn: (4000 - 3300, 1000)
+        (6, on_its_side % (3300, 1000)),  # turn: (4000 - 700, 1000)
+        (7, on_its_side % (3300, 5000)),  # mirror: (5000, 700); turn: (4000 - 700, 5000)
+        (8, on_its_side % (700, 5000)),  # as 3: (5000, 3300); turn: (4000 - 3300, 5000)
+    ):
+        yield script.orient(number), "ok"
+        yield script.LIST, shown
+        yield script.BACK, "ok"
+    yield script.LIST, upright % (1000, 700)
+    # 6 and then 2: (3300, 1000) in 4000 by 6000; mirror: (4000 - 3300, 1000). That is where 5 alone puts it.
+    yield script.orient(6), "ok"
+    yield script.orient(2), "ok"
+    yield script.LIST, on_its_side % (700, 1000)
+
+
 def refusals():
     plain = named_block("big", 1, 1)
     yield script.load(plain[:7]), "no 1"  # a block of seven bytes
@@ -168,13 +196,15 @@ def refusals():
     yield script.load(recorded_block(b"0101", "big", outside, 1, (0, 0), [])), "no 5"
     yield script.load(named_block("big", 0, 1)), "no 6"  # primary 0
     yield script.LIST, "no 7"
+    yield script.orient(0), "no 7"  # 15 applies as well, and the lowest number is returned
     # Point 1 of the table, as it is; 64 turns are sixteen times around.
     yield script.load(plain), "ok"
     shown = "frame 6016 4016 points 1 primary 0 mode 1 origin 2\n1 3008 2007 164 164 0"
     for _ in range(64):
-        yield script.TURN, "ok"
-    yield script.MIRROR, "no 8"
-    yield script.cut(0, 0, 0, 0), "no 8"  # 9 applies as well, and the lowest number is returned
+        yield script.orient(6), "ok"
+    yield script.orient(1), "no 8"
+    yield script.orient(9), "no 8"  # and not 15
+    yield script.cut(0, 0, 0, 0), "no 8"  # and not 9
     yield script.LIST, shown
     # 63 turns: once counterclockwise, (x, y) at (y, 6016 - x) in a frame of 4016 by 6016.
     yield script.BACK, "ok"
@@ -188,16 +218,20 @@ def refusals():
     body = script.load_body(None, None, reference.MODEL, plain)
     for malformed in (
         b"",  # an empty line
-        b"03F",  # an odd count of digits
-        b"0X03FD",  # another character
-        b"03FE",  # a wrong check
-        script.line(9),  # an unknown code
-        script.line(3, b"\0"),  # a wrong length
+        b"06F",  # an odd count of digits
+        b"0X06FA",  # another character
+        b"06FB",  # a wrong check
+        b"03FD",  # an unknown code: 03 was a turn
+        b"04FC",  # likewise: 04 was a mirror
+        script.line(9),  # a wrong length: an orientation without its number
+        script.line(9, b"\6\6"),  # and one with two
         script.line(1, b"\4", body[1:]),  # a flag byte of 4
         script.line(1, b"\0\0\0\0\1", body[5:]),  # a missing size with a side of 1
         script.contents(bytes(2047)),  # 4,098 characters
     ):
         yield malformed, "no 14"
+    yield script.orient(0), "no 15"
+    yield script.orient(9), "no 15"
     yield script.LIST, shown
 
 
@@ -236,8 +270,8 @@ def files():
     """The files, as (path, bytes)."""
     shown = {}
     for name, pairs in (
-        ("whole-case", whole_case()), ("dx-crop", dx_crop()), ("recorded", recorded()), ("contents", contents()),
-        ("refusals", refusals()),
+        ("whole-case", whole_case()), ("dx-crop", dx_crop()), ("recorded", recorded()),
+        ("orientations", orientations()), ("contents", contents()), ("refusals", refusals()),
     ):
         given, printed = worked(pairs)
         shown[name] = printed

@@ -3,16 +3,16 @@
 lines.py --tally SEED COUNT [--loads FILE]    only say what it is answered with
 
 Writes COUNT call lines of all kinds for `focusdesk` to standard output: loads,
-good and bad, edits up to and past 64, listings, fits, contents, and malformed
-lines. The same seed gives the same lines. Most calls meet a loaded sheet; at
-the front there is a stretch that leaves it empty. The last feed is missing now
-and then. The loads are those that are stored for placing_test, or those of a
-FILE of load lines (as tools/oracle's `loads` prints them), and the blocks of
-readers.py; as they are and changed: other sizes, models, named points and
-positions, damaged entries, entries in another order. Contents lines have these
-blocks too; more than half have a directory by chance, of the four tags and
-others in any order, repeated, damaged and of types that are passed over.
---tally counts the answers of reference.py.
+good and bad, cuts and orientations up to 64 and past them, listings, fits,
+contents, and malformed lines. The same seed gives the same lines. Most calls
+meet a loaded sheet; at the front there is a stretch that leaves it empty. The
+last feed is missing now and then. The loads are those that are stored for
+placing_test, or those of a FILE of load lines (as tools/oracle's `loads` prints
+them), and the blocks of readers.py; as they are and changed: other sizes,
+models, named points and positions, damaged entries, entries in another order.
+Contents lines have these blocks too; more than half have a directory by chance,
+of the four tags and others in any order, repeated, damaged and of types that
+are passed over. --tally counts the answers of reference.py.
 """
 
 import collections
@@ -293,12 +293,12 @@ def check(data):
 
 
 def wrong_length(chance, given):
-    code = chance.randrange(1, 8)
+    code = chance.choice([1, 2, 5, 6, 7, 9, 9])
     if code == 1:
         body = script.load_body(*given)
         return script.line(1, body[: chance.choice([0, 1, 16, 17, chance.randrange(18), 17 + len(given[2])])
                                    if given[2] else chance.randrange(18)])
-    right = {2: 16, 7: 8}.get(code, 0)
+    right = {2: 16, 7: 8, 9: 1}.get(code, 0)
     lengths = [right - 1, right + 1, right + 4, right - 4, 0, 2 * right, chance.randrange(1, 40)]
     return script.line(code, chance.randbytes(chance.choice([n for n in lengths if n >= 0 and n != right])))
 
@@ -332,7 +332,7 @@ def overlong(chance, good):
     if way == 0:
         return full + b"0"
     if way == 1:
-        return full + chance.choice([b"00", script.TURN, b"\r", b" ", full])
+        return full + chance.choice([b"00", script.orient(6), b"\r", b" ", full])
     if way < 4:
         return check(bytes.fromhex(full.decode())[:-1] + chance.randbytes(chance.choice([1, 1, 1, 2, 500])))
     if way == 4:
@@ -340,7 +340,7 @@ def overlong(chance, good):
     length = chance.choice([4097, 4097, 4098, 4099, 4100, 5000, 8191, 8192, 8193, 12288])
     if chance.random() < 0.02:
         length = chance.choice([65535, 65536, 65537, 200000])
-    return (chance.choice([b"0", b"F", b"06FA", b"x", b"\0", script.TURN]) * length)[:length]
+    return (chance.choice([b"0", b"F", b"06FA", b"x", b"\0", script.orient(6)]) * length)[:length]
 
 
 def malformed(chance, good, given):
@@ -366,10 +366,10 @@ def malformed(chance, good, given):
         data[at] = (data[at] + chance.choice([1, 255, 128, 1 << chance.randrange(8), chance.randrange(1, 256)])) % 256
         return data.hex().encode()
     if way == "code":
-        return script.line(chance.choice([0, 9, 10, 11, 0x30, 0x81, 0x83, 255, chance.randrange(9, 256)]),
-                           chance.randbytes(chance.choice([0, 1, 8, 16, 40])))
+        return script.line(chance.choice([0, 3, 3, 4, 4, 10, 11, 0x30, 0x83, 0x89, 255, chance.randrange(10, 256)]),
+                           chance.randbytes(chance.choice([0, 0, 1, 8, 16, 40])))
     if way == "one":
-        return b"%02x" % chance.choice([0, 0, 3, 6, 255])
+        return b"%02x" % chance.choice([0, 0, 6, 9, 255])
     if way == "length":
         return wrong_length(chance, given)
     if way == "flags":
@@ -380,7 +380,7 @@ def malformed(chance, good, given):
         return overlong(chance, good)
     full = longest(chance, good)
     return chance.choice([full[:-1], full[:-1] + b"g", b"g" + full[1:], full[:-2] + b"%02x" % ((int(full[-2:], 16) + 1) % 256),
-                          check(b"\x09" + bytes(2046)), check(b"\x03" + bytes(2046)), b"0" * 4096, full[:-1] + b"\r"])
+                          check(b"\x0a" + bytes(2046)), check(b"\x09" + bytes(2046)), b"0" * 4096, full[:-1] + b"\r"])
 
 
 # --------------------------------------------------------------- the script
@@ -419,17 +419,19 @@ class Script:
             self.add(load_line(chance, a_load(chance, self.path, "no %d" % chance.randrange(1, 7))))
         elif kind == "cut":
             self.add(script.cut(*(min(n, MAX_U32) for n in a_cut(chance, book))))
+        elif kind == "orient":
+            self.add(script.orient(stored.an_orientation(chance)))
         elif kind == "fit":
             self.add(script.fit(*a_box(chance, book)))
         elif kind == "contents":
             self.add(script.contents(a_contents(chance, self.path)))
         elif kind == "malformed":
             given = a_load(chance, self.path, "accepted")
-            good = chance.choice([script.TURN, script.BACK, script.LIST, script.cut(0, 0, 400, 400), script.fit(3, 2),
-                                  script.load(given[3], *given[:3]), script.contents(given[3])])
+            good = chance.choice([script.orient(chance.randrange(1, 9)), script.BACK, script.LIST, script.cut(0, 0, 400, 400),
+                                  script.fit(3, 2), script.load(given[3], *given[:3]), script.contents(given[3])])
             self.add(malformed(chance, good, given), well_formed=False)
         else:
-            self.add({"turn": script.TURN, "mirror": script.MIRROR, "back": script.BACK, "list": script.LIST}[kind])
+            self.add({"back": script.BACK, "list": script.LIST}[kind])
 
     def calls(self, count, weights):
         kinds = list(weights)
@@ -438,14 +440,14 @@ class Script:
 
     def empty(self, count):
         """On an empty sheet: 7, and loads that are refused."""
-        self.calls(count, {"refused": 3, "cut": 1, "turn": 1, "mirror": 1, "back": 1, "list": 1, "fit": 1,
+        self.calls(count, {"refused": 3, "cut": 1, "orient": 2, "back": 1, "list": 1, "fit": 1,
                            "contents": 2, "malformed": 3})
 
     def episode(self):
         """An accepted load and calls on it."""
         chance = self.chance
         self.call("accepted")
-        usual = {"refused": 14, "cut": 24, "turn": 8, "mirror": 6, "back": 13, "list": 16, "fit": 12,
+        usual = {"refused": 14, "cut": 24, "orient": 14, "back": 13, "list": 16, "fit": 12,
                  "contents": 10, "malformed": 14}
         way = chance.randrange(16)
         if way < 13:
@@ -454,11 +456,11 @@ class Script:
             self.calls(chance.choice([3, 8]), usual)
             self.calls(chance.choice([5, 20]), {**usual, "back": 80})
         else:  # up to 64 edits and past them, then some way back
-            edits = {"cut": chance.choice([0, 5, 20]), "turn": 10, "mirror": chance.choice([0, 10]), "list": 3, "fit": 1, "malformed": 1}
+            edits = {"cut": chance.choice([0, 5, 20]), "orient": 15, "list": 3, "fit": 1, "malformed": 1}
             most = chance.choice([30, 62, 64, 64, 64])
             while len(self.book.row) < most:
                 self.calls(1, edits)
-            self.calls(chance.choice([3, 10]), {**usual, "turn": 20, "mirror": 20, "back": 2})
+            self.calls(chance.choice([3, 10]), {**usual, "orient": 40, "back": 2})
             self.calls(chance.choice([0, 5, 70]), {**usual, "back": chance.choice([10, 200])})
 
 

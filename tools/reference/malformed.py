@@ -4,11 +4,11 @@ malformed.py --check    say whether the files are what would be written
 
 Writes crates/script_test/stdin: lines that are malformed in every way, and
 the well-formed ones beside them, on an empty sheet and on one with a standing
-edit, the contents lines of demos.py, and loads that runs against the Rust leave
-out, each with a list line after it; and crates/script_test/stdout, what
-`focusdesk` must print. Which lines are malformed, and what the loads are
-answered, is said here, line by line; nothing is written if reference.py says
-otherwise. The last feed is missing.
+edit, the contents lines of demos.py, loads that runs against the Rust leave
+out, each with a list line after it, and the lines of orientations.py; and
+crates/script_test/stdout, what `focusdesk` must print. Which lines are
+malformed, and what the loads are answered, is said here, line by line; nothing
+is written if reference.py says otherwise. The last feed is missing.
 """
 
 import os
@@ -17,6 +17,7 @@ import sys
 sys.dont_write_bytecode = True
 
 import demos
+import orientations
 import readers
 import reference
 import script
@@ -25,6 +26,9 @@ import stored
 BLOCK = demos.named_block("big", 27, 1 << 0 | 1 << 37, (0, 8))
 OTHER = demos.named_block("little", 2, 1 << 1)
 BODY = script.load_body(None, None, reference.MODEL, BLOCK)
+TURN, MIRROR = script.orient(6), script.orient(2)
+# What script_test has room for: its script, and its answers.
+ROOM = (262_144, 65_536)
 
 
 def filled(line, length):
@@ -47,39 +51,42 @@ def malformed():
     # Too long: by a character, by two, with a right check, and where the first 4,096 characters are a whole call.
     yield longest + b"0"
     yield longest + b"00"
-    yield longest + script.TURN
+    yield longest + TURN
     yield filled(load, 4098)
     yield filled(script.contents(OTHER), 4098)
     yield b"0" * 4097
     yield b" " * 4097
-    yield script.TURN.ljust(4097)
-    yield script.TURN * 3000
+    yield TURN.ljust(4097)
+    yield TURN * 2000
     # As long as a line may be, and malformed otherwise.
     yield longest[:-2] + b"00"
     yield longest[:-1] + b"g"
     yield b"g" + longest[1:]
     yield longest[:-1] + b"\r"
     yield longest[:-1]
-    yield script.line(9, bytes(2046))
+    yield script.line(10, bytes(2046))
     yield script.line(1, b"\4", bytes(2045))
     yield b"0" * 4096
 
     # An odd count of digits.
-    yield from (b"0", b"3", b"03F", b"03FD0", b"003FD", load[:-1], cut + b"0", b"000")
+    yield from (b"0", b"9", TURN[:-1], TURN + b"0", b"0" + TURN, load[:-1], cut + b"0", b"000")
     # Another character: beside the digits and letters, a sign, a space, a prefix, bytes above 127.
     for other in b"/:@G`g \t\r\0\x7f\x80\xff+-.,_xX":
-        yield b"03F" + bytes([other])
-        yield bytes([other]) + b"3FD"
-    yield from (b"03 FD", b"03FD ", b" 03FD", b"  03FD", b"0x03FD", b"03FDh ", b"03FD\0\0", "٠٣FD".encode())
+        yield TURN[:-1] + bytes([other])
+        yield bytes([other]) + TURN[1:]
+    yield from (b"09 06F1", b"0906 F1", TURN + b" ", b" " + TURN, b"  " + TURN, b"0x" + TURN, TURN + b"h ", TURN + b"\0\0",
+                "٠٩06F1".encode())
     # A carriage return before the feed.
-    yield from (b"03FD\r", b"03FD\r\r", load + b"\r", cut + b"\r")
+    yield from (TURN + b"\r", TURN + b"\r\r", load + b"\r", cut + b"\r")
     # A wrong check.
-    yield from (b"03FE", b"03FC", b"0303", b"0300", b"03FF", b"04FD", load[:-2] + b"00", cut[:-1] + b"0", b"FD03")
+    yield from (b"0906F2", b"0906F0", b"09060F", b"090600", b"0906FF", b"0907F1", b"0806F1", b"0900F1", b"0909F1",
+                load[:-2] + b"00", cut[:-1] + b"0", b"F10609")
     # One byte, with a check that is right or wrong.
-    yield from (b"00", b"01", b"03", b"06", b"FF")
-    # An unknown code.
-    for code in (0, 9, 10, 16, 0x30, 0x83, 254, 255):
+    yield from (b"00", b"01", b"06", b"09", b"FF")
+    # An unknown code: 03 and 04 too, which turn and mirror had.
+    for code in (0, 3, 4, 10, 16, 0x30, 0x83, 0x89, 254, 255):
         yield script.line(code)
+        yield script.line(code, b"\6")
         yield script.line(code, bytes(16))
     # A wrong length for each code.
     yield from (script.line(1), script.line(1, bytes(17)), script.line(1, BODY[:17]))
@@ -88,12 +95,16 @@ def malformed():
     yield script.line(1, bytes(17), b"\xff", bytes(254))
     for length in (0, 4, 12, 15, 17, 20):
         yield script.line(2, bytes(length))
-    for code in (3, 4, 5, 6):
+    for code in (5, 6):
         for length in (1, 4, 2000):
             yield script.line(code, bytes(length))
     for length in (0, 4, 7, 9, 16):
         yield script.line(7, bytes(length))
-    yield script.TURN + script.TURN
+    yield from (script.line(9), script.line(9, bytes(2000)))
+    for more in (b"\0", b"\6", b"\0\0", b"\0\0\0", bytes(15)):  # in front of the number, and behind it
+        yield script.line(9, b"\6", more)
+        yield script.line(9, more, b"\6")
+    yield TURN + TURN
     # A flag byte above 3.
     for flags in (4, 5, 7, 8, 0x80, 0xFF):
         yield with_size(flags, 0, 0, 0, 0)
@@ -113,7 +124,7 @@ def mixed(line):
 
 def first_load():
     yield script.load(BLOCK), "ok"
-    yield script.TURN, "ok"
+    yield TURN, "ok"
 
 
 def well_formed():
@@ -121,9 +132,9 @@ def well_formed():
     # Points 1, 27 and 38 after a turn, and in any case of letters.
     for way in (bytes.lower, bytes.upper, mixed):
         yield way(script.load(BLOCK)), "ok"
-        yield way(script.TURN), "ok"
+        yield way(TURN), "ok"
         yield way(script.cut(1000, 100, 3016, 5900)), "ok"
-        yield way(script.MIRROR), "ok"
+        yield way(MIRROR), "ok"
         yield way(script.BACK), "ok"
         yield way(script.BACK), "ok"
     # As long as a line may be: contents, and a load that is accepted, in any case.
@@ -131,9 +142,9 @@ def well_formed():
     yield filled(script.contents(b""), 4096), "no 1"
     for way in (bytes.lower, bytes.upper, mixed):
         yield way(filled(script.load(BLOCK), 4096)), "ok"
-        yield script.TURN, "ok"
+        yield TURN, "ok"
     yield filled(script.load(BLOCK), 4094), "ok"
-    yield script.TURN, "ok"
+    yield TURN, "ok"
     # As short as it may be.
     yield script.contents(b""), "no 1"
     yield script.line(1, bytes(18)), "no 1"
@@ -146,7 +157,7 @@ def well_formed():
         (3, (0, 0, 0, 0)), (3, (4294967295, 1, 1, 4294967295)),
     ):
         yield with_size(flags, *sides), "ok"
-        yield script.TURN, "ok"
+        yield TURN, "ok"
 
 
 FRAME, CENTRE, AREA = (6000, 4000), (3000, 2000), (300, 200)
@@ -226,12 +237,18 @@ TURNED = ("frame 4016 6016 points 3 primary 1 mode 3 origin 2\n"
           "1 2009 3008 164 164 0\n27 1708 4203 164 164 0\n38 2311 1812 164 164 0")
 
 
+# The whole case's points as they are loaded.
+WHOLE_LISTED = "frame 6016 4016 points 2 primary 0 mode 1 origin 2\n1 3008 2007 164 164 0\n16 3486 2007 164 164 0"
+
+
 def pairs():
     """Each line with its answer, or None where it is only the reference's."""
     for line in malformed():
         yield line, "no 14"
         yield script.LIST, "no 7"
     yield script.BACK, "no 7"
+    for number in (*range(10), 16, 128, 255):  # 7 before 15
+        yield script.orient(number), "no 7"
     yield from first_load()
     yield script.LIST, TURNED
     for line in malformed():
@@ -250,6 +267,10 @@ def pairs():
         yield line, "no %d" % answer if isinstance(answer, int) else "ok"
         shown = shown if isinstance(answer, int) else answer
         yield script.LIST, shown
+    # The whole case with its old turn, which is malformed: in the frame as it was loaded, the cut would drop the primary.
+    load, _, cut, listing = reference.WHOLE_CASE.splitlines()
+    yield from ((load, "ok"), (b"03FD", "no 14"), (cut, "no 10"), (listing, WHOLE_LISTED))
+    yield from orientations.pairs()
     yield from first_load()
     # Feeds alone, and a last line without one.
     for _ in range(5):
@@ -266,9 +287,12 @@ def files():
         if answer is not None and own != answer + "\n":
             sys.exit("%r...: here %s, the reference %s" % (line[:60], answer, own))
     given = script.text(lines, last_feed=False)
+    printed = reference.run_script(given).encode()
+    if len(given) > ROOM[0] or len(printed) > ROOM[1]:
+        sys.exit("%d bytes, answered with %d: script_test has room for %d and %d" % (len(given), len(printed), *ROOM))
     crate = os.path.join("crates", "script_test")
     yield os.path.join(crate, "stdin"), given
-    yield os.path.join(crate, "stdout"), reference.run_script(given).encode()
+    yield os.path.join(crate, "stdout"), printed
     print("%d lines, of which malformed: %d" % (len(lines), answers.count("no 14")))
 
 

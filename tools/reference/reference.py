@@ -369,35 +369,56 @@ def contents(block):
 # ----------------------------------------------------------------- the book
 
 
-def frame_after(frame, edit):
-    if edit[0] == "cut":
-        return (edit[3], edit[4])
-    return (frame[1], frame[0]) if edit[0] == "turn" else frame
+MIRROR, TURN = ("mirror",), ("turn",)
+
+# The steps of each orientation, one after the other.
+ORIENTATIONS = {
+    1: [],
+    2: [MIRROR],
+    3: [TURN, TURN],
+    4: [MIRROR, TURN, TURN],
+    5: [MIRROR, TURN, TURN, TURN],
+    6: [TURN],
+    7: [MIRROR, TURN],
+    8: [TURN, TURN, TURN],
+}
+
+
+def steps(row):
+    """The steps of a row of edits, in order: an orientation has its own, a cut is one."""
+    for edit in row:
+        yield from ORIENTATIONS[edit[1]] if edit[0] == "orientation" else [edit]
+
+
+def frame_after(frame, step):
+    if step[0] == "cut":
+        return (step[3], step[4])
+    return (frame[1], frame[0]) if step == TURN else frame
 
 
 def frame_through(frame, row):
-    for edit in row:
-        frame = frame_after(frame, edit)
+    for step in steps(row):
+        frame = frame_after(frame, step)
     return frame
 
 
 def carry(point, frame, row):
     """One point, alone, through a row of edits; None once it is unlisted."""
-    for edit in row:
-        point = move(point, frame, edit)
+    for step in steps(row):
+        point = move(point, frame, step)
         if point is None:
             return None
-        frame = frame_after(frame, edit)
+        frame = frame_after(frame, step)
     return point
 
 
-def move(point, frame, edit):
+def move(point, frame, step):
     number, x, y, width, height, in_focus = point
-    if edit[0] == "turn":
+    if step == TURN:
         return Point(number, frame[1] - y, x, height, width, in_focus)
-    if edit[0] == "mirror":
+    if step == MIRROR:
         return Point(number, frame[0] - x, y, width, height, in_focus)
-    _, left, top, *frame = edit
+    _, left, top, *frame = step
     moved = Point(number, x - left, y - top, width, height, in_focus)
     return moved if fits(moved, frame) else None
 
@@ -442,18 +463,14 @@ class Book:
         self.row = row
         return "ok"
 
-    def turn(self):
-        return self._join(("turn",))
-
-    def mirror(self):
-        return self._join(("mirror",))
-
-    def _join(self, edit):
+    def orient(self, number):
         if self.held is None:
             return no(7)
         if len(self.row) >= MAX_EDITS:
             return no(8)
-        self.row = self.row + [edit]
+        if number not in ORIENTATIONS:
+            return no(15)
+        self.row = self.row + [("orientation", number)]
         return "ok"
 
     def back(self):
@@ -514,12 +531,14 @@ def decode(line):
         return decode_load(rest)
     if code == 2:
         return ("cut", *words) if len(rest) == 16 else None
-    if code in (3, 4, 5, 6):
-        return (("turn", "mirror", "back", "list")[code - 3],) if not rest else None
+    if code in (5, 6):
+        return ("back" if code == 5 else "list",) if not rest else None
     if code == 7:
         return ("fit", *words) if len(rest) == 8 else None
     if code == 8:
         return ("contents", rest)
+    if code == 9:
+        return ("orient", rest[0]) if len(rest) == 1 else None
     return None
 
 
@@ -569,6 +588,12 @@ def head_line(listing):
         *listing.frame, listing.count, listing.primary, listing.mode, listing.origin)
 
 
+def placed_lines(placed):
+    """The lines of a listing of what is placed."""
+    head = Listing(placed.frame, len(placed.points), placed.primary, placed.mode, placed.origin)
+    return [head_line(head)] + [" ".join(map(str, point)) for point in placed.points]
+
+
 def run_script(script):
     """What focusdesk prints for the bytes of a script."""
     lines = script.split(b"\n")
@@ -595,11 +620,7 @@ def parse_hex(text):
 def load_line_answer(line):
     raw, picture, model, block = line.split(" ")
     answer = load(parse_hex(block), parse_size(raw), parse_size(picture), parse_hex(model))
-    if refused(answer):
-        return "no %d" % answer[1]
-    head = head_line(Listing(answer.frame, len(answer.points), answer.primary,
-                             answer.mode, answer.origin))
-    return " | ".join([head] + [" ".join(map(str, point)) for point in answer.points])
+    return "no %d" % answer[1] if refused(answer) else " | ".join(placed_lines(answer))
 
 
 # ---------------------------------------------------------------- self-test
@@ -607,7 +628,7 @@ def load_line_answer(line):
 WHOLE_CASE = (
     b"0100000000000000000000000000000000000A4E494B4F4E20443630304D4D002A000000080001"
     b"00B700070000001E00000016303130300000030101800000000000000000000000000000000000"
-    b"00000077\n03FD\n020000076C00000B5400000190000001900A\n06FA\n"
+    b"00000077\n0906F1\n020000076C00000B5400000190000001900A\n06FA\n"
 )
 WHOLE_CASE_PRINTS = (
     "ok\nok\nok\nframe 400 400 points 1 primary 0 mode 1 origin 2\n1 109 108 164 164 0\n"
@@ -660,12 +681,14 @@ def self_test():
     def contents_line(*entries):
         return run_script(call_line(b"\x08", build_block(*entries)))
 
-    def full_book():
-        book = Book()
-        book.load(named_block(1), None, None, MODEL)
-        return book, [book.turn() for _ in range(65)]
+    def oriented(*numbers):
+        """The frame of 60 by 40, and a point's centre and area in it, after these orientations."""
+        row = [("orientation", number) for number in numbers]
+        return frame_through((60, 40), row), carry(Point(1, 10, 7, 4, 2, 0), (60, 40), row)[1:5]
 
-    book, turns = full_book()
+    eight = range(1, 9)
+    book = Book()
+    book.load(named_block(1), None, None, MODEL)
     checks = [
         ("the whole case", run_script(WHOLE_CASE), WHOLE_CASE_PRINTS),
         ("the whole case, last feed missing", run_script(WHOLE_CASE[:-1]), WHOLE_CASE_PRINTS),
@@ -684,14 +707,16 @@ def self_test():
         ("primary 0", load(named_block(0), None, None, MODEL), no(6)),
         ("no input, no line", run_script(b""), ""),
         ("an empty line", run_script(b"\n"), "no 14\n"),
-        ("an empty book", run_script(b"03FD\n05FB\n06fa\n"), "no 7\nno 7\nno 7\n"),
+        ("an empty book", run_script(b"0906F1\n0900F7\n05FB\n06fa\n"), "no 7\n" * 4),
         ("either case", run_script(b"06fA\n06Fa\n"), "no 7\nno 7\n"),
         ("nothing but a check", run_script(b"00\n"), "no 14\n"),
-        ("a wrong check", run_script(b"03FE\n"), "no 14\n"),
-        ("an odd count of digits", run_script(b"03FD0\n"), "no 14\n"),
-        ("another character", run_script(b"03FD\r\n"), "no 14\n"),
-        ("an unknown code", run_script(call_line(b"\x09")), "no 14\n"),
-        ("a wrong length", run_script(call_line(b"\x03\x00")), "no 14\n"),
+        ("a wrong check", run_script(b"06FB\n"), "no 14\n"),
+        ("an odd count of digits", run_script(b"06FA0\n"), "no 14\n"),
+        ("another character", run_script(b"06FA\r\n"), "no 14\n"),
+        ("an unknown code", run_script(call_line(b"\x0a")), "no 14\n"),
+        ("the codes of turn and mirror", run_script(b"03FD\n04FC\n"), "no 14\n" * 2),
+        ("a wrong length", run_script(call_line(b"\x06\x00")), "no 14\n"),
+        ("no number, and two", run_script(call_line(b"\x09") + b"\n" + call_line(b"\x09\x06\x06")), "no 14\n" * 2),
         ("a flag byte of 4", run_script(call_line(b"\x01\x04", bytes(17))), "no 14\n"),
         ("a missing size of 1", run_script(call_line(b"\x01\x02\x01", bytes(16))), "no 14\n"),
         ("a model cut short", run_script(call_line(b"\x01", bytes(17), b"\x01")), "no 14\n"),
@@ -717,7 +742,15 @@ def self_test():
                        (CROP_AREA, 3, 1, b"AB")), "tags 2 27 69\n"),
         ("contents, all passed over",
          contents_line((RECORD, 65535, 1, b"A"), (FOCUS_MODE, 0, 1, b"A"), (CROP_AREA, 14, 1, b"A")), "tags 0\n"),
-        ("64 edits stand", turns, ["ok"] * 64 + [no(8)]),
+        ("each orientation", [oriented(number) for number in eight], [
+            ((60, 40), (10, 7, 4, 2)), ((60, 40), (50, 7, 4, 2)), ((60, 40), (50, 33, 4, 2)), ((60, 40), (10, 33, 4, 2)),
+            ((40, 60), (7, 10, 2, 4)), ((40, 60), (33, 10, 2, 4)), ((40, 60), (33, 50, 2, 4)), ((40, 60), (7, 50, 2, 4))]),
+        ("two orientations are as a single one",
+         [[oriented(one, other) == oriented(single) for single in eight].count(True) for one in eight for other in eight],
+         [1] * 64),
+        ("numbers outside 1 to 8", [book.orient(number) for number in (0, 9, 255)], [no(15)] * 3),
+        ("64 edits stand", [book.orient(1) for _ in range(65)], ["ok"] * 64 + [no(8)]),
+        ("8 before 15", book.orient(0), no(8)),
         ("back after them", [book.back() for _ in range(65)], ["ok"] * 64 + [no(11)]),
         ("a short buffer", book.list([9] * 5), no(13)),
         ("cut past the frame", book.cut(1, 0, 6016, 1), no(9)),

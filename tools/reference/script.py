@@ -6,8 +6,6 @@ import struct
 
 import reference
 
-CODES = {"load": 1, "cut": 2, "turn": 3, "mirror": 4, "back": 5, "list": 6, "fit": 7, "contents": 8}
-
 
 def line(code, *parts):
     """A line of any code, with a check that is right."""
@@ -36,7 +34,12 @@ def contents(block):
     return line(8, block)
 
 
-TURN, MIRROR, BACK, LIST = (line(code) for code in (3, 4, 5, 6))
+def orient(number):
+    """A line of an orientation; the number may be any that a byte holds."""
+    return line(9, bytes([number]))
+
+
+BACK, LIST = line(5), line(6)
 
 
 def text(lines, last_feed=True):

@@ -1,5 +1,6 @@
 """What is stored: the loads of the program placing_test, as material for other
-calls, with cuts by chance; and files that are written or compared."""
+calls, with cuts and orientations by chance; and files that are written or
+compared."""
 
 import os
 import struct
@@ -13,16 +14,23 @@ RECORD = 512
 HUGE = [0, 1, 4294967295]
 
 
+def records(data):
+    """The records of 512 bytes that the test programs read; what is left behind them is none."""
+    return [data[end - RECORD : end] for end in range(RECORD, len(data) + 1, RECORD)]
+
+
+def load_of(record):
+    """The load that a record of placing_test spells, as (raw, picture, model, block)."""
+    flags, *sides, model_length, block_length = struct.unpack(">B4IBH", record[:20])
+    model = record[20 : 20 + model_length]
+    block = record[20 + model_length : 20 + model_length + block_length]
+    return (tuple(sides[:2]) if flags & 1 else None, tuple(sides[2:]) if flags & 2 else None, model, block)
+
+
 def loads():
-    """The loads of placing_test, as (raw, picture, model, block)."""
+    """The loads of placing_test."""
     with open(os.path.join(CRATES, "placing_test", "stdin"), "rb") as file:
-        data = file.read()
-    for start in range(0, len(data), RECORD):
-        record = data[start : start + RECORD]
-        flags, *sides, model_length, block_length = struct.unpack(">B4IBH", record[:20])
-        model = record[20 : 20 + model_length]
-        block = record[20 + model_length : 20 + model_length + block_length]
-        yield (tuple(sides[:2]) if flags & 1 else None, tuple(sides[2:]) if flags & 2 else None, model, block)
+        yield from map(load_of, records(file.read()))
 
 
 def answer(given):
@@ -43,6 +51,11 @@ def a_cut(chance, book):
         length = chance.randrange(side - before + 2) if chance.random() < 0.3 else side - before
         sides.append((before, length))
     return [sides[0][0], sides[1][0], sides[0][1], sides[1][1]]
+
+
+def an_orientation(chance):
+    """Mostly one of the eight numbers."""
+    return chance.randrange(1, 9) if chance.random() < 0.9 else chance.choice([0, 9, 255, chance.randrange(9, 256)])
 
 
 def read(path):

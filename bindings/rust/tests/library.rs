@@ -187,7 +187,7 @@ fn slices_of_length_0() {
     assert_eq!(contents_into(&[], &mut []), Err(Refusal::Unreadable));
     assert_eq!(contents_into(&whole_case(), &mut []), Err(Refusal::Short));
     assert_eq!(script_into(&[], &mut []), Ok(0));
-    assert_eq!(script_into(b"03FD\n", &mut []), Err(Refusal::Short));
+    assert_eq!(script_into(b"0906F1\n", &mut []), Err(Refusal::Short));
     assert_eq!(script(&[]), []);
 }
 
@@ -200,6 +200,7 @@ fn scripts_are_answered_byte_for_byte() {
         ("demo/whole-case.txt", "demo/whole-case.out"),
         ("demo/dx-crop.txt", "demo/dx-crop.out"),
         ("demo/recorded.txt", "demo/recorded.out"),
+        ("demo/orientations.txt", "demo/orientations.out"),
         ("demo/contents.txt", "demo/contents.out"),
         ("demo/refusals.txt", "demo/refusals.out"),
     ] {
@@ -229,17 +230,37 @@ fn call_line(bytes: &[u8]) -> String {
     bytes.iter().chain([&check]).map(|b| format!("{b:02X}")).collect()
 }
 
-#[test]
-fn the_longest_answers_have_room() {
-    // A load of all 39 points; then they are listed as they are, and fitted to the largest box, where numbers have up to ten digits.
+/// The line that loads a block.
+fn load_line(block: &[u8]) -> String {
     let mut load = vec![1];
     load.extend([0; 17]);
     load.push(MODEL.len() as u8);
     load.extend(MODEL);
-    load.extend(all_points());
+    load.extend(block);
+    call_line(&load)
+}
+
+#[test]
+fn orientations_are_numbered_1_to_8() {
+    let orient = |number: u8| call_line(&[9, number]);
+    let mut calls = vec![(orient(0), "no 7"), (load_line(&whole_case()), "ok")];
+    calls.extend([0, 9, 128, 255].map(|number| (orient(number), "no 15")));
+    // The codes that turn and mirror had, no number, two numbers.
+    calls.extend([&[3][..], &[4], &[9], &[9, 6, 6]].map(|bytes| (call_line(bytes), "no 14")));
+    // With 64 edits, of which orientation 1 is one, 8 comes before 15.
+    calls.extend((0..64).map(|i| (orient(i % 8 + 1), "ok")));
+    calls.extend([0, 1, 6, 9].map(|number| (orient(number), "no 8")));
+    let (lines, answers): (Vec<String>, Vec<&str>) = calls.into_iter().unzip();
+    let printed = String::from_utf8(script(lines.join("\n").as_bytes())).unwrap();
+    assert_eq!(printed.lines().collect::<Vec<_>>(), answers);
+}
+
+#[test]
+fn the_longest_answers_have_room() {
+    // A load of all 39 points; then they are listed as they are, and fitted to the largest box, where numbers have up to ten digits.
     let mut fit = vec![7];
     fit.extend([0xFF; 8]);
-    let mut lines = vec![call_line(&load)];
+    let mut lines = vec![load_line(&all_points())];
     for _ in 0..40 {
         lines.extend([call_line(&[6]), call_line(&fit)]);
     }

@@ -17,7 +17,7 @@ use Rattle.reading.specs.declared.geometry.Size.{Size}
 use Rattle.laws.proofs.Tests.{by-cond, both}
 use Rattle.hex.specs.Hex.{sum, checks}
 use Rattle.hex.specs.Laws.{AreBytes}
-use Rattle.calls.specs.Format.{LineCall, lineLoad, lineTurn, lineMirror, lineBack, lineList, ofLength, u32At, sidesAt, sidesAgree, optional, hasRaw, hasPicture, flags, modelLength, wellFormedLoad, loadCall, cutCall, fitCall, contentsCall, byCode, callOf, modelPart, blockPart, contentsPart, modelGiven, blockGiven}
+use Rattle.calls.specs.Format.{LineCall, lineLoad, lineBack, lineList, ofLength, u32At, sidesAt, sidesAgree, optional, hasRaw, hasPicture, flags, modelLength, wellFormedLoad, loadCall, cutCall, fitCall, contentsCall, orientCall, byCode, callOf, modelPart, blockPart, contentsPart, modelGiven, blockGiven}
 use Rattle.calls.specs.Laws.{fourBytes, sizeBytes, isGiven, flagByte, sidesOf, body, checkOf, checked, Number, SizeNumbers, Encodable, Encodes, EncodedOrMalformed, isMalformed, isEncoded, ReadIsEncoded}
 use Rattle.calls.proofs.Encoded.{sum-snoc}
 
@@ -137,7 +137,7 @@ if-so : (b : List ℕ) (t : Bool) {x : LineCall} → (t ≡ true → Encodes b x
 if-so b t f = by-cond (EncodedOrMalformed b) t (λ e. isEncoded (f e)) (λ e. isMalformed)
 
 module _ (b : List ℕ) (h : AreBytes b) (right : checks b ≡ true) where
-  -- turn, mirror, back and list: a call that is its code alone
+  -- back and list: a call that is its code alone
   plain : (x : LineCall) (k : ℕ) → Encodable x (modelGiven x b) (blockGiven x b) → body x (modelGiven x b) (blockGiven x b) ≡ k ∷ [] → k ≡ getD b 0 0
       → EncodedOrMalformed b (ofLength 2 b (accepted x))
   plain x k can e c =
@@ -185,6 +185,18 @@ module _ (b : List ℕ) (h : AreBytes b) (right : checks b ≡ true) where
       (λ e.
       let l = eqb-true (length b) 10 e in
       record { encodable = (size-numbers b h 1, (refl, refl)); its-bytes = whole b h (omega arith) right _ (rw l (fit-body 7 c l)) })
+
+  -- an orientation
+  orient-body : (k n : ℕ) → k ≡ getD b 0 0 → n ≡ getD b 1 0 → length b ≡ 3 → k ∷ n ∷ [] ≡ take 2 b
+  orient-body k n c e l = grow b 1 1 (k ∷ []) (n ∷ []) (one-at b 0 k (omega arith) c) (one-at b 1 n (omega arith) e)
+
+  orientation : 9 ≡ getD b 0 0 → EncodedOrMalformed b (orientCall b)
+  unfolding orientCall body
+  orientation c =
+      if-so b (eqb (length b) 3)
+      (λ e.
+      let l = eqb-true (length b) 3 e in
+      record { encodable = (h 1, (refl, refl)); its-bytes = whole b h (omega arith) right _ (rw l (orient-body 9 (getD b 1 0) c refl l)) })
 
   -- contents
   contents-body : (k : ℕ) → k ≡ getD b 0 0 → 2 ≤ length b → k ∷ [] ++ contentsPart b ≡ take (length b - 1) b
@@ -254,9 +266,8 @@ module _ (b : List ℕ) (h : AreBytes b) (right : checks b ≡ true) where
   unfolding byCode body
   coded k c =
       arm 1 load (arm 2 cut
-      (arm 3 (plain lineTurn 3 (refl, refl) refl) (arm 4 (plain lineMirror 4 (refl, refl) refl)
       (arm 5 (plain lineBack 5 (refl, refl) refl) (arm 6 (plain lineList 6 (refl, refl) refl)
-      (arm 7 fit (arm 8 contents isMalformed)))))))
+      (arm 7 fit (arm 8 contents (arm 9 orientation isMalformed))))))
     where
       arm : (n : ℕ) {x y : Outcome LineCall} → (n ≡ getD b 0 0 → EncodedOrMalformed b x) → EncodedOrMalformed b y → EncodedOrMalformed b (cond (eqb k n) x y)
       arm n f g = by-cond (EncodedOrMalformed b) (eqb k n) (λ e. f (sym (eqb-true k n e) ∙ c)) (λ e. g)

@@ -18,7 +18,7 @@ use Rattle.reading.specs.declared.geometry.OptionalSize.{OptionalSize}
 use Rattle.reading.specs.declared.geometry.OptionalSize.the-variants.{Missing, Given}
 use Rattle.hex.specs.Hex.{sum, checks}
 use Rattle.hex.specs.Laws.{AreBytes}
-use Rattle.calls.specs.Format.{LineCall, lineLoad, lineCut, lineTurn, lineMirror, lineBack, lineList, lineFit, lineContents, ofLength, sidesAt, flags, modelLength, sidesAgree, optional, wellFormedLoad, loadCall, byCode, callOf, modelPart, blockPart, contentsPart}
+use Rattle.calls.specs.Format.{LineCall, lineLoad, lineCut, lineBack, lineList, lineFit, lineContents, lineOrient, ofLength, sidesAt, flags, modelLength, sidesAgree, optional, wellFormedLoad, loadCall, orientCall, byCode, callOf, modelPart, blockPart, contentsPart}
 use Rattle.calls.specs.Laws.{fourBytes, sizeBytes, isGiven, flagByte, sidesOf, body, checkOf, checked, encoded, Number, SizeNumbers, Encodable, ReadBack, EncodedIsRead, EncodedIsBytes}
 use Rattle.calls.proofs.Laws as laws
 
@@ -89,6 +89,10 @@ unfolding body checked byCode fourBytes
 fit-back s h =
     let t = body (lineFit s) [] [] in
     by-its-code t (accepted (lineFit s)) (sym (laws.fit (checked t) s (accepted (lineFit s)) (size-back (checked t) 1 s (checkOf t ∷ []) h refl) refl))
+
+orient-back : (n : ℕ) → callOf (encoded (lineOrient n) [] []) ≡ accepted (lineOrient n)
+unfolding body checked byCode orientCall
+orient-back n = by-its-code (9 ∷ n ∷ []) (accepted (lineOrient n)) refl
 
 -- ---- contents
 module _ (k : List ℕ) where
@@ -220,10 +224,6 @@ encoded-is-read (lineCut left top width height) m k h =
       the-model = sym (h .4 .0);
       the-block = sym (h .4 .1);
     }
-encoded-is-read lineTurn m k h =
-    record { the-call = two-bytes 3 lineTurn (λ b. refl); the-model = sym (h .0); the-block = sym (h .1) }
-encoded-is-read lineMirror m k h =
-    record { the-call = two-bytes 4 lineMirror (λ b. refl); the-model = sym (h .0); the-block = sym (h .1) }
 encoded-is-read lineBack m k h =
     record { the-call = two-bytes 5 lineBack (λ b. refl); the-model = sym (h .0); the-block = sym (h .1) }
 encoded-is-read lineList m k h =
@@ -236,6 +236,8 @@ encoded-is-read lineContents m k h =
       the-model = sym h;
       the-block = contents-part k (checkOf (8 ∷ k));
     }
+encoded-is-read (lineOrient n) m k h =
+    record { the-call = orient-back n; the-model = sym (h .1 .0); the-block = sym (h .1 .1) }
 
 -- ---- bytes
 record All (b : List ℕ) : Type 0 where
@@ -291,12 +293,11 @@ all-bytes (lineCut left top width height) m k h hm hk =
     (bytes-append _ _ (bytes-append _ _ (one-byte 2 (omega arith)) (bytes-four left)) (bytes-four top))
     (bytes-four width))
     (bytes-four height))
-all-bytes lineTurn m k h hm hk = bytes-checked _ (one-byte 3 (omega arith))
-all-bytes lineMirror m k h hm hk = bytes-checked _ (one-byte 4 (omega arith))
 all-bytes lineBack m k h hm hk = bytes-checked _ (one-byte 5 (omega arith))
 all-bytes lineList m k h hm hk = bytes-checked _ (one-byte 6 (omega arith))
 all-bytes (lineFit s) m k h hm hk = bytes-checked _ (bytes-append _ _ (one-byte 7 (omega arith)) (bytes-size s))
 all-bytes lineContents m k h hm hk = bytes-checked _ (bytes-append _ _ (one-byte 8 (omega arith)) hk)
+all-bytes (lineOrient n) m k h hm hk = bytes-checked _ (bytes-cons 9 _ (omega arith) (one-byte n (h .0)))
 
 pub encoded-is-bytes : EncodedIsBytes
 encoded-is-bytes x m k h hm hk = all-bytes x m k h (record { each = hm }) (record { each = hk }) .each

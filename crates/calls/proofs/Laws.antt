@@ -4,7 +4,7 @@ use Prim.Native.Nat.{ℕ, _+_, _-_, _/_, _%_, _<_, _≤_}
 use mathlib.Core.Path.{_≡_, ap, _∙_}
 use mathlib.Core.Bool.{Bool, true, false, not}
 use mathlib.Core.List.{List}
-use lib.Dec.{leb, eqb}
+use lib.Dec.{eqb}
 use lib.ListN.{length, getD, take, drop}
 use lib.Seq.{drop-drop}
 use borrow.Author.Tests.{le-leb, lt-leb, eq-eqb, ne-eqb, not-true, not-false}
@@ -15,7 +15,7 @@ use Rattle.reading.specs.declared.geometry.Size.{Size}
 use Rattle.reading.specs.declared.geometry.OptionalSize.{OptionalSize}
 use Rattle.reading.specs.declared.geometry.OptionalSize.the-variants.{Missing, Given}
 use Rattle.hex.specs.Hex.{checks}
-use Rattle.calls.specs.Format.{LineCall, lineLoad, lineCut, lineFit, lineContents, u32At, sidesAt, sidesAgree, optional, wellFormedLoad, loadCall, ofLength, cutCall, fitCall, contentsCall, byCode, callOf, modelPart, blockPart, contentsPart}
+use Rattle.calls.specs.Format.{LineCall, lineLoad, lineCut, lineFit, lineContents, lineOrient, u32At, sidesAt, sidesAgree, optional, wellFormedLoad, loadCall, ofLength, cutCall, fitCall, contentsCall, orientCall, byCode, callOf, modelPart, blockPart, contentsPart}
 
 -- ---- numbers and sizes
 pub number : (b t : List ℕ) (at n : ℕ) → t ≡ drop at b → n ≡ u32Of Big t → n ≡ u32At b at
@@ -101,6 +101,10 @@ contents-yes b h = rw (le-leb 2 (length b) h)
 pub contents-no : (b : List ℕ) → length b < 2 → refused 14 ≡ contentsCall b
 unfolding contentsCall
 contents-no b h = rw (lt-leb 2 (length b) h)
+
+pub orientation : (b : List ℕ) (n : ℕ) (r : Outcome LineCall) → n ≡ getD b 1 0 → r ≡ ofLength 3 b (accepted (lineOrient n)) → r ≡ orientCall b
+unfolding orientCall
+orientation b n r en er = rw (← en) er
 
 -- ---- the call
 module _ (b : List ℕ) (r : Bool) (er : r ≡ checks b) where

@@ -1,4 +1,4 @@
--- 01, "After the sheet": the call that the bytes of a line spell. The first byte is the code, the last one the check. "Numbers
+-- 01, "After the sheet", with 02's code 09: the call that the bytes of a line spell. The first byte is the code, the last one the check. "Numbers
 -- big-endian."
 use Prim.Native.Nat.{ℕ, _+_, _-_, _/_, _%_}
 use mathlib.Core.Bool.{Bool, _&&_, _||_, cond}
@@ -13,7 +13,7 @@ use Rattle.reading.specs.declared.geometry.OptionalSize.{OptionalSize}
 use Rattle.reading.specs.declared.geometry.OptionalSize.the-variants.{Missing, Given}
 use Rattle.hex.specs.Hex.{checks}
 use Rattle.calls.specs.declared.Call.{Call}
-use Rattle.calls.specs.declared.Call.the-variants.{Malformed, Load, Cut, Turn, Mirror, Back, ListPoints, Fit, Contents}
+use Rattle.calls.specs.declared.Call.the-variants.{Malformed, Load, Cut, Back, ListPoints, Fit, Contents, Orient}
 
 -- ---- a call as a line's bytes spell it. What a load and contents are given besides, model and block, are parts of the bytes: see
 -- modelPart, blockPart and contentsPart
@@ -22,25 +22,24 @@ pub data LineCall : Type 0 where
   lineLoad : OptionalSize → OptionalSize → LineCall
   -- left, top, width and height
   lineCut : ℕ → ℕ → ℕ → ℕ → LineCall
-  lineTurn : LineCall
-  lineMirror : LineCall
   lineBack : LineCall
   lineList : LineCall
   -- the box
   lineFit : Size → LineCall
   lineContents : LineCall
+  -- an orientation's number, which may be outside 1 to 8
+  lineOrient : ℕ → LineCall
 
 -- what the code's answer means in 01's numbers: 14, "call line malformed", or the call
 abbrev pub callMeans : Call → Outcome LineCall
 callMeans Malformed = refused 14
 callMeans (Load raw picture) = accepted (lineLoad raw picture)
 callMeans (Cut left top width height) = accepted (lineCut left top width height)
-callMeans Turn = accepted lineTurn
-callMeans Mirror = accepted lineMirror
 callMeans Back = accepted lineBack
 callMeans ListPoints = accepted lineList
 callMeans (Fit box) = accepted (lineFit box)
 callMeans Contents = accepted lineContents
+callMeans (Orient number) = accepted (lineOrient number)
 
 -- ---- numbers
 -- the 32-bit number at a place
@@ -109,16 +108,21 @@ contentsCall b = cond (leb 2 (length b)) (accepted lineContents) (refused 14)
 unfoldable pub contentsPart : List ℕ → List ℕ
 contentsPart b = take (length b - 2) (drop 1 b)
 
--- "Codes: 01 load .., 02 cut .., 03 turn, 04 mirror, 05 back, 06 list, 07 fit .., 08 contents"; "an unknown code": 14
+-- 02: "code 09 carries the number in one byte"
+unfoldable pub orientCall : List ℕ → Outcome LineCall
+orientCall b = ofLength 3 b (accepted (lineOrient (getD b 1 0)))
+
+-- "Codes: 01 load .., 02 cut .., 05 back, 06 list, 07 fit .., 08 contents", and 02's 09; "an unknown code": 14. 02: "Call codes 03 and
+-- 04 become malformed"
 unfoldable pub byCode : ℕ → List ℕ → Outcome LineCall
 byCode code b =
     cond (eqb code 1) (loadCall b)
     (cond (eqb code 2) (cutCall b)
-    (cond (eqb code 3) (ofLength 2 b (accepted lineTurn))
-    (cond (eqb code 4) (ofLength 2 b (accepted lineMirror))
     (cond (eqb code 5) (ofLength 2 b (accepted lineBack))
     (cond (eqb code 6) (ofLength 2 b (accepted lineList))
-    (cond (eqb code 7) (fitCall b) (cond (eqb code 8) (contentsCall b) (refused 14))))))))
+    (cond (eqb code 7) (fitCall b)
+    (cond (eqb code 8) (contentsCall b)
+    (cond (eqb code 9) (orientCall b) (refused 14)))))))
 
 -- the call of a line's bytes; "a wrong check": 14, whatever else they say
 unfoldable pub callOf : List ℕ → Outcome LineCall
@@ -128,19 +132,17 @@ callOf b = cond (checks b) (byCode (getD b 0 0) b) (refused 14)
 abbrev pub modelGiven : LineCall → List ℕ → List ℕ
 modelGiven (lineLoad raw picture) b = modelPart b
 modelGiven (lineCut left top width height) b = []
-modelGiven lineTurn b = []
-modelGiven lineMirror b = []
 modelGiven lineBack b = []
 modelGiven lineList b = []
 modelGiven (lineFit size) b = []
 modelGiven lineContents b = []
+modelGiven (lineOrient number) b = []
 
 abbrev pub blockGiven : LineCall → List ℕ → List ℕ
 blockGiven (lineLoad raw picture) b = blockPart b
 blockGiven (lineCut left top width height) b = []
-blockGiven lineTurn b = []
-blockGiven lineMirror b = []
 blockGiven lineBack b = []
 blockGiven lineList b = []
 blockGiven (lineFit size) b = []
 blockGiven lineContents b = contentsPart b
+blockGiven (lineOrient number) b = []

@@ -11,7 +11,7 @@ use Rattle.reading.specs.declared.geometry.OptionalSize.{OptionalSize}
 use Rattle.reading.specs.declared.geometry.OptionalSize.the-variants.{Missing, Given}
 use Rattle.hex.specs.Hex.{sum}
 use Rattle.hex.specs.Laws.{AreBytes}
-use Rattle.calls.specs.Format.{LineCall, lineLoad, lineCut, lineTurn, lineMirror, lineBack, lineList, lineFit, lineContents, callOf, modelGiven, blockGiven}
+use Rattle.calls.specs.Format.{LineCall, lineLoad, lineCut, lineBack, lineList, lineFit, lineContents, lineOrient, callOf, modelGiven, blockGiven}
 
 -- ---- a call's bytes
 -- "Numbers big-endian", of 32 bits
@@ -40,12 +40,11 @@ body (lineLoad raw picture) model block =
     1 ∷ flagByte raw picture ∷ [] ++ sizeBytes (sidesOf raw) ++ sizeBytes (sidesOf picture) ++ length model ∷ [] ++ model ++ block
 body (lineCut left top width height) model block =
     2 ∷ [] ++ fourBytes left ++ fourBytes top ++ fourBytes width ++ fourBytes height
-body lineTurn model block = 3 ∷ []
-body lineMirror model block = 4 ∷ []
 body lineBack model block = 5 ∷ []
 body lineList model block = 6 ∷ []
 body (lineFit size) model block = 7 ∷ [] ++ sizeBytes size
 body lineContents model block = 8 ∷ [] ++ block
+body (lineOrient number) model block = 9 ∷ number ∷ []
 
 -- the byte with which some bytes sum to 0
 unfoldable pub checkOf : List ℕ → ℕ
@@ -73,12 +72,11 @@ Encodable (lineLoad raw picture) model block =
     SizeNumbers (sidesOf raw) × SizeNumbers (sidesOf picture) × (length model < 256)
 Encodable (lineCut left top width height) model block =
     Number left × Number top × Number width × Number height × Alone model block
-Encodable lineTurn model block = Alone model block
-Encodable lineMirror model block = Alone model block
 Encodable lineBack model block = Alone model block
 Encodable lineList model block = Alone model block
 Encodable (lineFit size) model block = SizeNumbers size × Alone model block
 Encodable lineContents model block = model ≡ []
+Encodable (lineOrient number) model block = (number < 256) × Alone model block
 
 -- ---- what is encoded is read back: the call, its model and its block
 pub record ReadBack (call : LineCall) (model block b : List ℕ) : Type 0 where

@@ -9,7 +9,7 @@ use reading::geometry::OptionalSize;
 use reading::geometry::Size;
 ghost use mathlib.Core.Path.{_≡_};
 ghost use Prim.Native.Nat.{_-_, _<_};
-ghost use Rattle.calls.specs.Format.{callMeans, u32At, sidesAt, sidesAgree, optional, modelLength, wellFormedLoad, loadCall, ofLength, cutCall, fitCall, contentsCall, byCode, callOf, modelPart, blockPart, contentsPart};
+ghost use Rattle.calls.specs.Format.{callMeans, u32At, sidesAt, sidesAgree, optional, modelLength, wellFormedLoad, loadCall, ofLength, cutCall, fitCall, contentsCall, orientCall, byCode, callOf, modelPart, blockPart, contentsPart};
 
 // How a line's bytes read; what a load or contents is given besides stands in the bytes, see model_part, block_part, contents_part.
 pub enum Call {
@@ -24,14 +24,15 @@ pub enum Call {
         width: u32,
         height: u32,
     },
-    Turn,
-    Mirror,
     Back,
     ListPoints,
     Fit {
         size: Size,
     },
     Contents,
+    Orient {
+        number: u32,
+    },
 }
 
 // `a` less `b`, 0 where `b` is more.
@@ -160,6 +161,14 @@ fn contents_call(b: &[u8]) -> Call
     Call::Malformed
 }
 
+// An orientation, where the bytes spell one.
+fn orient_call(b: &[u8]) -> Call
+    ensures { λ r. ⌜ callMeans r ≡ orientCall (now (b .entry)) ⌝ }
+{
+    let number = u8_at(b, 1) as u32;
+    of_length(3, b, Call::Orient { number })
+}
+
 // The call of a code.
 fn by_code(code: u8, b: &[u8]) -> Call
     ensures { λ r. ⌜ callMeans r ≡ byCode code (now (b .entry)) ⌝ }
@@ -167,12 +176,11 @@ fn by_code(code: u8, b: &[u8]) -> Call
     match code {
         1 => load_call(b),
         2 => cut_call(b),
-        3 => of_length(2, b, Call::Turn),
-        4 => of_length(2, b, Call::Mirror),
         5 => of_length(2, b, Call::Back),
         6 => of_length(2, b, Call::ListPoints),
         7 => fit_call(b),
         8 => contents_call(b),
+        9 => orient_call(b),
         _ => Call::Malformed,
     }
 }

@@ -13,7 +13,7 @@ use lib.Seq.{sets, length-sets, take-take, getD-take}
 use native.Mathlib.Nat.{le-of-lt}
 use native.Mathlib.Numerals.{add-one, sub-one}
 use native.Mathlib.Omega.{arith}
-use borrow.Author.Tests.{lt-ltb, le-leb, lt-leb, ltb-true, ltb-false, eqb-false, ne-eqb}
+use borrow.Author.Tests.{lt-ltb, le-leb, lt-leb, ltb-true, ltb-false, eqb-false}
 use Rattle.reading.specs.Outcome.{Outcome, refused, accepted}
 use Rattle.reading.specs.declared.geometry.Size.{Size}
 use Rattle.placing.specs.declared.focus.FocusPoint.{FocusPoint}
@@ -24,17 +24,20 @@ use Rattle.placing.specs.Load.{Focus, noPoint}
 use Rattle.placing.specs.Sound.{Sound}
 use Rattle.placing.proofs.Sound.{focus-sound}
 use Rattle.sheet.specs.declared.edits.Edit.{Edit}
-use Rattle.sheet.specs.declared.edits.Edit.the-variants.{Cut, Turn, Mirror}
+use Rattle.sheet.specs.declared.edits.Edit.the-variants.{Cut, Orient}
 use Rattle.sheet.specs.declared.edits.Carried.{Carried}
 use Rattle.sheet.specs.declared.Sheet.{Sheet}
+use Rattle.sheet.specs.declared.orientation.Orientation.the-variants.{Normal}
+use Rattle.sheet.specs.Orientation.{eight, orientationNumber, orientationOf}
 use Rattle.sheet.specs.Place.{wordsOf, moved, placed, isGoodCut}
-use Rattle.sheet.specs.Sheet.{leaves, keptBy, freshSheet, loadedSheet, loadSheet, usable, placedAt, presentFrame as frameOf, withEdits, addEdit, ifOpen, turnSheet, mirrorSheet, keepsPrimary, cutSheet, backSheet}
+use Rattle.sheet.specs.Sheet.{leaves, keptBy, freshSheet, loadedSheet, loadSheet, usable, placedAt, presentFrame as frameOf, withEdits, addEdit, ifOpen, orientTo, orientSheet, keepsPrimary, cutSheet, backSheet}
 use Rattle.sheet.specs.Listing.{headNumbers, flat}
 use Rattle.sheet.specs.Lists.{listing as sheetListing, listCount, listIndex, isShort, headIn, listOutcome, listBuffer, scaledAll, fitOutcome, fitBuffer}
 use Rattle.sheet.proofs.Buffer.{flat-length}
 use Rattle.placing.proofs.Places.{length-places, take-places}
+use Rattle.sheet.proofs.OrientationNumbers.{stands-for-one}
 use Rattle.sheet.proofs.Words.{stored-last}
-use Rattle.journal.specs.Journal.{Change, cut, turn, mirror, Journal, empty, holds, frameAfter, stillListed, listed, presentFrame, listing, primaryIndex, primaryAfter, fitted, Answer, no, ok, ended, head, isBadCut, isFull, changeRefusal, backRefusal, journalLoad, journalChange, journalBack, numbers, written, journalList, journalFit}
+use Rattle.journal.specs.Journal.{Change, cut, orient, Journal, empty, holds, frameAfter, stillListed, listed, presentFrame, listing, primaryIndex, primaryAfter, fitted, Answer, no, ok, ended, head, isBadCut, isOutside, isFull, changeRefusal, backRefusal, journalLoad, journalChange, journalBack, numbers, written, journalList, journalFit}
 use Rattle.journal.specs.Calls.{Call, load, change, back, list, fit, journalStep, runJournal}
 use Rattle.journal.specs.SheetCalls.{afterEdit, afterList, changed, sheetStep, runSheet}
 use Rattle.journal.specs.Claim.{Claim}
@@ -163,16 +166,21 @@ primary-stays s h e =
     rw (getD-take (s .count) (s .points) (s .primary) noPoint (h .primed))
     (ap stillListed (sym more) ∙ is-listed (moved e q))
 
--- ---- turn and mirror
-plain : (s : Sheet) (h : Held s) (e : Edit) → Agree (afterEdit (ifOpen s (leaves (addEdit s e))))
-    (ended (cond (isFull (rowOf s)) (some 8) none) (holds (loadOf s) (rowOf s)) (holds (loadOf s) (rowOf s ++ changeOf e ∷ [])))
-unfolding ifOpen
-plain s h e = rw (usable-held s h, full s) (by (ltb (s .standing) 64) refl)
+-- ---- orientation
+orients : (s : Sheet) (h : Held s) (n : ℕ) → Agree (afterEdit (orientSheet s n)) (journalChange (holds (loadOf s) (rowOf s)) (orient n))
+unfolding orientSheet orientationOf ifOpen journalChange changeRefusal isOutside
+orients s h n =
+    rw (usable-held s h, full s) (by (ltb (s .standing) 64) refl (ltb n 1 || ltb 8 n) refl)
   where
-    by : (a : Bool) → ltb (s .standing) 64 ≡ a → Agree (afterEdit (cond a (leaves (addEdit s e)) (keptBy 8 s)))
-        (ended (cond (not a) (some 8) none) (holds (loadOf s) (rowOf s)) (holds (loadOf s) (rowOf s ++ changeOf e ∷ [])))
-    by true q = adds s h e (ltb-true (s .standing) 64 q)
-    by false q = keeps s h 8
+    by : (a : Bool) → ltb (s .standing) 64 ≡ a → (b : Bool) → ltb n 1 || ltb 8 n ≡ b →
+        Agree
+        (afterEdit (cond a (orientTo s (cond b (refused 15) (accepted (getD eight (n - 1) Normal)))) (keptBy 8 s)))
+        (ended (cond (not a) (some 8) (cond b (some 15) none)) (holds (loadOf s) (rowOf s)) (holds (loadOf s) (rowOf s ++ orient n ∷ [])))
+    by true q true p = keeps s h 15
+    by true q false p =
+        let e : orientationNumber (getD eight (n - 1) Normal) ≡ n = stands-for-one n (getD eight (n - 1) Normal) (rw p) in
+        rw e at (adds s h (Orient (getD eight (n - 1) Normal)) (ltb-true (s .standing) 64 q))
+    by false q b p = keeps s h 8
 
 -- ---- cut
 cuts : (s : Sheet) (h : Held s) (l t w k : ℕ) → Agree (afterEdit (cutSheet s l t w k)) (journalChange (holds (loadOf s) (rowOf s)) (cut l t w k))
@@ -191,10 +199,8 @@ cuts s h l t w k =
     by false q b c = keeps s h 8
 
 changes : (s : Sheet) (h : Held s) (c : Change) → Agree (afterEdit (changed s c)) (journalChange (holds (loadOf s) (rowOf s)) c)
-unfolding turnSheet mirrorSheet journalChange changeRefusal
 changes s h (cut l t w k) = cuts s h l t w k
-changes s h turn = plain s h Turn
-changes s h mirror = plain s h Mirror
+changes s h (orient n) = orients s h n
 
 -- ---- back
 fewer : (s : Sheet) (h : Held s) → (s .standing ≡ 0 → ⊥)
@@ -301,12 +307,11 @@ abbrev AgreeAt : Sheet → Call → Type 0
 AgreeAt s c = Agree (sheetStep s c) (journalStep (journalOf s) c)
 
 blank-step : (s : Sheet) (e : s .loaded ≡ false) (c : Call) → AgreeAt s c
-unfolding sheetStep journalStep turnSheet mirrorSheet backSheet cutSheet ifOpen listOutcome listBuffer fitOutcome fitBuffer journalChange journalBack journalList journalFit
+unfolding sheetStep journalStep orientSheet backSheet cutSheet ifOpen listOutcome listBuffer fitOutcome fitBuffer journalChange journalBack journalList journalFit
 blank-step s e (load block raw picture model) =
     loads s (blank e) (focusOf block raw picture model) (focus-sound block raw picture model)
 blank-step s e (change (cut l t w h)) = rw (usable-blank s e, journal-blank s e) (refl, refl, blank e)
-blank-step s e (change turn) = rw (usable-blank s e, journal-blank s e) (refl, refl, blank e)
-blank-step s e (change mirror) = rw (usable-blank s e, journal-blank s e) (refl, refl, blank e)
+blank-step s e (change (orient n)) = rw (usable-blank s e, journal-blank s e) (refl, refl, blank e)
 blank-step s e back = rw (usable-blank s e, journal-blank s e) (refl, refl, blank e)
 blank-step s e (list b) = rw (usable-blank s e, journal-blank s e) (refl, refl, blank e)
 blank-step s e (fit box b) = rw (usable-blank s e, journal-blank s e) (refl, refl, blank e)

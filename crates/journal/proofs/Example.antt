@@ -12,11 +12,11 @@ use Rattle.placing.specs.Named.{pictureIs, uncropped, placedFrame, marked, fits
 use Rattle.placing.specs.Focus.{recordsPosition, placedOf, focusOf}
 use Rattle.reading.specs.Note.{valuesIn, valuesOf}
 use Rattle.placing.specs.Load.{originNumber}
-use Rattle.journal.specs.Journal.{frameAfter, carried, listed, isBadCut, journalLoad, changeRefusal, journalChange, numbers, written, journalList}
+use Rattle.journal.specs.Journal.{frameThrough, pointThrough, numberedSteps, frameAfter, carried, listed, isBadCut, isOutside, journalLoad, changeRefusal, journalChange, numbers, written, journalList}
 use Rattle.journal.specs.Calls.{journalStep, runJournal}
 use Rattle.journal.specs.Example.{wholeCase, WholeCase}
 use Rattle.journal.proofs.Claim.{claim}
 
 pub whole-case : WholeCase
-unfolding same u16Of u32Of shortsOf offsetOf entryCount directoryOf inOrder byMark blockOf sizeOf entryOf hasTag firstOf findOf manualFocusOf cropHiSpeedOf cropAreaOf layoutAmong layoutOf areaModeOf maskOf sizeAt recordIn recordOf afInfo2Of inFocusNumber modeNumber axisFits hasZeroSide centerLiesOn areaFits noArea liesOn pointFits tableOf pictureIs uncropped placedFrame marked fitsWindow isNamed isListed listedFrom hasNumber indexOf placedIn windowOf namedOutcome recordsPosition placedOf valuesIn valuesOf focusOf originNumber frameAfter carried listed isBadCut journalLoad changeRefusal journalChange numbers written journalList journalStep runJournal
+unfolding same u16Of u32Of shortsOf offsetOf entryCount directoryOf inOrder byMark blockOf sizeOf entryOf hasTag firstOf findOf manualFocusOf cropHiSpeedOf cropAreaOf layoutAmong layoutOf areaModeOf maskOf sizeAt recordIn recordOf afInfo2Of inFocusNumber modeNumber axisFits hasZeroSide centerLiesOn areaFits noArea liesOn pointFits tableOf pictureIs uncropped placedFrame marked fitsWindow isNamed isListed listedFrom hasNumber indexOf placedIn windowOf namedOutcome recordsPosition placedOf valuesIn valuesOf focusOf originNumber frameThrough pointThrough numberedSteps frameAfter carried listed isBadCut isOutside journalLoad changeRefusal journalChange numbers written journalList journalStep runJournal
 whole-case = claim wholeCase ∙ refl

@@ -2,7 +2,7 @@
 -- cut that would drop the primary is refused, and a point that is listed was listed before. Then: a point that fits the load's
 -- frame fits the present one wherever it is carried. Assumes nothing.
 use Prim.Native.Nat.{ℕ, zero, suc, _-_, _<_, _≤_}
-use mathlib.Core.Bool.{Bool, true, false, cond, false≢true}
+use mathlib.Core.Bool.{Bool, true, false, cond}
 use mathlib.Core.List.{List, [], _∷_, _++_}
 use mathlib.Core.Option.{Option, none, some}
 use mathlib.Core.Path.{_≡_, refl, ap, _∙_}
@@ -20,7 +20,7 @@ use Rattle.placing.specs.Focus.{focusOf}
 use Rattle.placing.specs.Load.{Focus, noPoint}
 use Rattle.placing.specs.Sound.{Sound, SoundFocus, AllFit}
 use Rattle.placing.proofs.Sound.{focus-sound}
-use Rattle.journal.specs.Journal.{Change, cut, turn, mirror, Journal, empty, holds, frameBy, pointBy, staysListed, frameAfter, movedBy, carried, stillListed, ifListed, listed, presentFrame, primaryOf, primaryAfter, ended, isBadCut, cutRefusal, changeRefusal, backRefusal, journalLoad, journalChange, journalBack}
+use Rattle.journal.specs.Journal.{Change, cut, orient, Step, turn, mirror, frameAt, pointAt, frameThrough, pointThrough, numberedSteps, Journal, empty, holds, frameBy, pointBy, staysListed, frameAfter, movedBy, carried, stillListed, ifListed, listed, presentFrame, primaryOf, primaryAfter, ended, isBadCut, ownRefusal, changeRefusal, backRefusal, journalLoad, journalChange, journalBack}
 use Rattle.journal.specs.Calls.{Call, load, change, back, list, fit, journalStep, journalAfter}
 use Rattle.journal.specs.Claim.{after}
 use Rattle.journal.proofs.Carry.{carried-append, carried-snoc, carried-none}
@@ -44,24 +44,16 @@ listed-before f o row more e = by (carried f o row) (rw (carried-append f o row 
     by none y = rw (carried-none (frameAfter f row) more) at y
     by (some p) y = refl
 
--- turn and mirror leave a listed point listed
-abbrev pub isPlain : Change → Bool
-isPlain (cut l t w h) = false
-isPlain turn = true
-isPlain mirror = true
+-- an orientation leaves a listed point listed
+orient-stays : (n : ℕ) (f : Size) (o : Option FocusPoint) → stillListed (movedBy (orient n) f o) ≡ stillListed o
+orient-stays n f none = refl
+orient-stays n f (some p) = refl
 
-plain-stays : (c : Change) (f : Size) (o : Option FocusPoint) → isPlain c ≡ true → stillListed (movedBy c f o) ≡ stillListed o
-plain-stays (cut l t w h) f o e = absurd (false≢true e)
-plain-stays turn f none e = refl
-plain-stays turn f (some p) e = refl
-plain-stays mirror f none e = refl
-plain-stays mirror f (some p) e = refl
-
-primary-plain : (f : Focus) (row : List Change) (c : Change) → isPlain c ≡ true → stillListed (primaryAfter f row) ≡ true
-    → stillListed (primaryAfter f (row ++ c ∷ [])) ≡ true
-primary-plain f row c e h =
-    rw (carried-snoc (f .frame) (some (primaryOf f)) row c)
-    (plain-stays c (frameAfter (f .frame) row) (primaryAfter f row) e ∙ h)
+primary-stays : (f : Focus) (row : List Change) (n : ℕ) → stillListed (primaryAfter f row) ≡ true
+    → stillListed (primaryAfter f (row ++ orient n ∷ [])) ≡ true
+primary-stays f row n h =
+    rw (carried-snoc (f .frame) (some (primaryOf f)) row (orient n))
+    (orient-stays n (frameAfter (f .frame) row) (primaryAfter f row) ∙ h)
 
 -- what an edit that is not refused tells
 cut-told : (a b : Bool) → cond {A = Option ℕ} a (some 9) (cond b none (some 10)) ≡ none → b ≡ true
@@ -83,11 +75,10 @@ change-right f row c r e =
       room = rw length-append (omega (arith, leb-false 64 (length row) (k .0)));
     }
   where
-    by : (c : Change) → cutRefusal f row c ≡ none → stillListed (primaryAfter f (row ++ c ∷ [])) ≡ true
+    by : (c : Change) → ownRefusal f row c ≡ none → stillListed (primaryAfter f (row ++ c ∷ [])) ≡ true
     by (cut l t w h) y =
         cut-told (isBadCut l t w h (presentFrame f row)) (stillListed (primaryAfter f (row ++ cut l t w h ∷ []))) y
-    by turn y = primary-plain f row turn refl (r .primary)
-    by mirror y = primary-plain f row mirror refl (r .primary)
+    by (orient n) y = primary-stays f row n (r .primary)
 
 back-right : (f : Focus) (row : List Change) → Right f row → Right f (take (length row - 1) row)
 back-right f row r = record {
@@ -133,6 +124,17 @@ abbrev pub FitsIf : Size → Option FocusPoint → Type 0
 FitsIf f none = Unit
 FitsIf f (some p) = pointFits f p ≡ true
 
+-- a turn exchanges the axes and then mirrors
+step-fits : (s : Step) (f : Size) (p : FocusPoint) → pointFits f p ≡ true → pointFits (frameAt s f) (pointAt s f p) ≡ true
+unfolding pointFits
+step-fits turn f p h = fits-mirrored _ _ _ (fits-swapped f (p .center) (p .size) h)
+step-fits mirror f p h = fits-mirrored f (p .center) (p .size) h
+
+through-fits : (ss : List Step) (f : Size) (p : FocusPoint) → pointFits f p ≡ true → pointFits (frameThrough ss f) (pointThrough ss f p) ≡ true
+unfolding frameThrough pointThrough
+through-fits [] f p h = h
+through-fits (s ∷ ss) f p h = through-fits ss (frameAt s f) (pointAt s f p) (step-fits s f p h)
+
 moved-fits : (c : Change) (f : Size) (o : Option FocusPoint) → FitsIf f o → FitsIf (frameBy c f) (movedBy c f o)
 unfolding pointFits
 moved-fits c f none h = tt
@@ -141,9 +143,7 @@ moved-fits (cut l t w k) f (some p) h = by (staysListed (cut l t w k) f p) refl
     by : (b : Bool) → staysListed (cut l t w k) f p ≡ b → FitsIf (frameBy (cut l t w k) f) (cond b (some (pointBy (cut l t w k) f p)) none)
     by true e = both (leb t (p .center .y)) _ (both (leb l (p .center .x)) _ e .1) .1
     by false e = tt
-moved-fits turn f (some p) h =
-    fits-mirrored _ _ _ (fits-swapped f (p .center) (p .size) h)
-moved-fits mirror f (some p) h = fits-mirrored f (p .center) (p .size) h
+moved-fits (orient n) f (some p) h = through-fits (numberedSteps n) f p h
 
 pub carried-fits : (f : Size) (o : Option FocusPoint) (row : List Change) → FitsIf f o → FitsIf (frameAfter f row) (carried f o row)
 unfolding frameAfter carried

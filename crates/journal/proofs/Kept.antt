@@ -13,12 +13,14 @@ use Rattle.placing.specs.Fit.{hasZeroSide}
 use Rattle.placing.specs.Focus.{focusOf}
 use Rattle.placing.specs.Load.{Focus}
 use Rattle.sheet.specs.declared.edits.Edit.the-variants.{Cut}
+use Rattle.sheet.specs.declared.orientation.Orientation.{Orientation}
 use Rattle.sheet.specs.declared.Sheet.{Sheet}
-use Rattle.sheet.specs.Sheet.{leaves, keptBy, loadSheet, usable, presentFrame, withEdits, addEdit, ifOpen, turnSheet, mirrorSheet, keepsPrimary, cutSheet, backSheet}
+use Rattle.sheet.specs.Sheet.{leaves, keptBy, loadSheet, usable, presentFrame, withEdits, addEdit, ifOpen, orientTo, orientSheet, keepsPrimary, cutSheet, backSheet}
+use Rattle.sheet.specs.Orientation.{orientationOf}
 use Rattle.sheet.specs.Place.{isGoodCut}
 use Rattle.sheet.specs.Listing.{headNumbers, over, flat}
 use Rattle.sheet.specs.Lists.{listing as sheetListing, isShort, headIn, scaledAll, listOutcome, listBuffer, fitOutcome, fitBuffer}
-use Rattle.journal.specs.Journal.{Change, cut, turn, mirror, Answer}
+use Rattle.journal.specs.Journal.{Change, cut, orient, Answer}
 use Rattle.journal.specs.Calls.{Call, load, change, back, list, fit, lent}
 use Rattle.journal.specs.SheetCalls.{afterEdit, afterList, changed, sheetStep}
 use Rattle.journal.specs.Claim.{RefusedKeeps}
@@ -52,11 +54,17 @@ cuts s l t w h = opens s _ (by (isGoodCut l t w h (presentFrame s)) (keepsPrimar
     by true false = inr refl
     by false b = inr refl
 
+orients : (s : Sheet) (n : ℕ) → KeepsEdited (orientSheet s n) s
+unfolding orientSheet
+orients s n = opens s _ (by (orientationOf n))
+  where
+    by : (o : Outcome Orientation) → KeepsEdited (orientTo s o) s
+    by (refused m) = inr refl
+    by (accepted o) = inl refl
+
 changes : (s : Sheet) (c : Change) → KeepsEdited (changed s c) s
-unfolding turnSheet mirrorSheet
 changes s (cut l t w h) = cuts s l t w h
-changes s turn = opens s _ (inl refl)
-changes s mirror = opens s _ (inl refl)
+changes s (orient n) = orients s n
 
 backs : (s : Sheet) → KeepsEdited (backSheet s) s
 unfolding backSheet

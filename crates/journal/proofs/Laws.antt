@@ -1,11 +1,11 @@
--- The laws of specs/Laws.antt. Two rows that leave the same frame, and carry every point that fits the load's frame alike, list
--- alike; a listed point is on the present frame, so what is subtracted twice comes back. Assumes nothing.
-use Prim.Native.Nat.{ℕ, zero, suc, _+_, _-_, _≤_, _<_}
+-- The laws of specs/Laws.antt but those of orientations. Two rows that leave the same frame, and carry every point that fits the load's
+-- frame alike, list alike; so do two rows that go on alike from the present frame. Assumes nothing.
+use Prim.Native.Nat.{ℕ, zero, suc, _+_, _-_, _<_}
 use mathlib.Core.Bool.{true, false≢true}
 use mathlib.Core.List.{List, [], _∷_, _++_, append-assoc, append-nil}
 use mathlib.Core.Option.{Option, none, some}
-use mathlib.Core.Path.{_≡_, refl, sym, ap, _∙_}
-use lib.ListN.{length, take, replicate, length-append}
+use mathlib.Core.Path.{_≡_, refl, sym, ap, subst, _∙_}
+use lib.ListN.{length, take, length-append}
 use native.Mathlib.Nat.{sub-zero}
 use native.Mathlib.Omega.{arith}
 use borrow.Author.Tests.{le-leb, lt-leb, ne-eqb}
@@ -16,13 +16,13 @@ use Rattle.placing.specs.Fit.{pointFits}
 use Rattle.placing.proofs.Fitting.{fits-on-frame}
 use Rattle.placing.specs.Load.{Focus}
 use Rattle.placing.specs.Sound.{SoundFocus, AllFit}
-use Rattle.journal.specs.Journal.{Change, cut, turn, mirror, Journal, empty, holds, frameAfter, movedBy, carried, stillListed, ifListed, listed, presentFrame, listing, primaryIndex, primaryOf, primaryAfter, Answer, ok, ended, changeRefusal, backRefusal, journalChange, journalBack, written, journalList, journalFit}
+use Rattle.journal.specs.Journal.{Change, cut, Journal, empty, holds, frameAfter, movedBy, carried, stillListed, ifListed, listed, presentFrame, listing, primaryIndex, primaryOf, primaryAfter, Answer, ok, ended, changeRefusal, backRefusal, journalChange, journalBack, written, journalList, journalFit}
 use Rattle.journal.specs.Calls.{Call, change, back, list, fit, journalStep, journalAfter}
 use Rattle.journal.specs.Claim.{after}
-use Rattle.journal.specs.Laws.{ListAlike, FourTurns, TwoMirrors, wholeCut, WholeCut, BackUndoes, SixtyFourStand, movedAll, EditMoves, StaysUnlisted}
+use Rattle.journal.specs.Laws.{ListAlike, wholeCut, WholeCut, BackUndoes, movedAll, EditMoves, StaysUnlisted}
 use Rattle.journal.proofs.Carry.{frame-append, carried-append, carried-snoc, carried-none, but-last}
 use Rattle.journal.proofs.Answers.{answers, answered, after-append}
-use Rattle.journal.proofs.Holds.{Right, right, isPlain, FitsIf, carried-fits, fits-at}
+use Rattle.journal.proofs.Holds.{Right, right, FitsIf, carried-fits, fits-at}
 use Rattle.journal.proofs.Refusals.{good-of}
 
 -- ---- an edit more, and further edits
@@ -53,7 +53,7 @@ pub edit-moves : EditMoves
 edit-moves f row c = listed-moves (f .frame) row c (f .points)
 
 -- ---- two rows that list alike
-abbrev CarryAlike : Size → List Change → List Change → Type 0
+abbrev pub CarryAlike : Size → List Change → List Change → Type 0
 CarryAlike f row other = (p : FocusPoint) → pointFits f p ≡ true → carried f (some p) row ≡ carried f (some p) other
 
 listed-alike : (f : Size) (row other : List Change) (ps : List FocusPoint) → AllFit f ps → CarryAlike f row other → listed f row ps ≡ listed f other ps
@@ -84,7 +84,7 @@ module _ (f : Focus) (row other : List Change) (s : SoundFocus f)
   fits-alike box b = rw (e, points-alike, index-alike)
 
 -- after two lists of calls whose journals hold such rows
-alike : (calls others : List Call) (f : Focus) (row other : List Change) → after calls ≡ holds f row → after others ≡ holds f other
+pub alike : (calls others : List Call) (f : Focus) (row other : List Change) → after calls ≡ holds f row → after others ≡ holds f other
     → SoundFocus f → presentFrame f row ≡ presentFrame f other → CarryAlike (f .frame) row other → ListAlike calls others
 unfolding journalStep
 alike calls others f row other p q s e k = record {
@@ -92,92 +92,34 @@ alike calls others f row other p q s e k = record {
   fits = λ box b. answered calls (holds f row) (fit box b) p ∙ fits-alike f row other s e k box b ∙ sym (answered others (holds f other) (fit box b) q);
 }
 
--- ---- further edits that bring every point of the present frame back
-abbrev Restores : Size → List Change → Type 0
-Restores g more = (p : FocusPoint) → pointFits g p ≡ true → carried g (some p) more ≡ some p
-
-restored : (f : Focus) (row more : List Change) → Restores (presentFrame f row) more → CarryAlike (f .frame) (row ++ more) row
-restored f row more r p h =
+-- ---- further edits that carry every point of the present frame alike
+pub carry-alike : (f : Focus) (row more other : List Change) → CarryAlike (presentFrame f row) more other
+    → CarryAlike (f .frame) (row ++ more) (row ++ other)
+carry-alike f row more other r p h =
     carried-append (f .frame) (some p) row more
     ∙ by (carried (f .frame) (some p) row) (carried-fits (f .frame) (some p) row h)
+    ∙ sym (carried-append (f .frame) (some p) row other)
   where
-    by : (o : Option FocusPoint) → FitsIf (presentFrame f row) o → carried (presentFrame f row) o more ≡ o
-    by none y = carried-none (presentFrame f row) more
+    by : (o : Option FocusPoint) → FitsIf (presentFrame f row) o → carried (presentFrame f row) o more ≡ carried (presentFrame f row) o other
+    by none y = carried-none (presentFrame f row) more ∙ sym (carried-none (presentFrame f row) other)
     by (some q) y = r q y
 
-twice : (a b : ℕ) → b ≤ a → a - (a - b) ≡ b
-twice a b h = omega arith
+-- and that bring every one back
+restored : (f : Focus) (row more : List Change) → CarryAlike (presentFrame f row) more [] → CarryAlike (f .frame) (row ++ more) row
+restored f row more r = subst (CarryAlike (f .frame) (row ++ more)) (append-nil row) (carry-alike f row more [] r)
 
-four-turns-restore : (g : Size) → Restores g (replicate 4 turn)
-unfolding carried
-four-turns-restore g p h =
-    let o = fits-on-frame g p h in
-    rw (twice (g .width) (p .center .x) (o .across), twice (g .height) (p .center .y) (o .down))
-
-two-mirrors-restore : (g : Size) → Restores g (replicate 2 mirror)
-unfolding carried
-two-mirrors-restore g p h =
-    let o = fits-on-frame g p h in
-    rw (twice (g .width) (p .center .x) (o .across))
-
-whole-cut-restores : (g : Size) → Restores g (cut 0 0 (g .width) (g .height) ∷ [])
+-- ---- a cut of the whole frame
+whole-cut-restores : (g : Size) → CarryAlike g (cut 0 0 (g .width) (g .height) ∷ []) []
 unfolding carried
 whole-cut-restores g p h =
     rw (sub-zero (p .center .x), sub-zero (p .center .y), le-leb 0 (p .center .x) (omega arith), le-leb 0 (p .center .y) (omega arith), h)
 
--- ---- turns and mirrors while fewer than 64 stand
 -- an edit that is not refused
-taken : (f : Focus) (row : List Change) (c : Change) → changeRefusal f row c ≡ none
+pub taken : (f : Focus) (row : List Change) (c : Change) → changeRefusal f row c ≡ none
     → journalStep (holds f row) (change c) ≡ (ok [] [], holds f (row ++ c ∷ []))
 unfolding journalStep journalChange
 taken f row c e = rw e
 
-plain-adds : (f : Focus) (row : List Change) (c : Change) → isPlain c ≡ true → length row < 64
-    → journalStep (holds f row) (change c) .1 ≡ holds f (row ++ c ∷ [])
-unfolding journalStep journalChange changeRefusal
-plain-adds f row (cut l t w h) e r = absurd (false≢true e)
-plain-adds f row turn e r = rw (lt-leb 64 (length row) r)
-plain-adds f row mirror e r = rw (lt-leb 64 (length row) r)
-
-plain-many : (f : Focus) (c : Change) → isPlain c ≡ true → (n : ℕ) (row : List Change) → length row + n ≤ 64
-    → journalAfter (holds f row) (replicate n (change c)) ≡ holds f (row ++ replicate n c)
-unfolding journalAfter
-plain-many f c e zero row r = ap (holds f) (sym (append-nil row))
-plain-many f c e (suc n) row r =
-    ap (λ (j : Journal). journalAfter j (replicate n (change c))) (plain-adds f row c e (omega arith))
-    ∙ plain-many f c e n (row ++ c ∷ []) (rw length-append (omega arith))
-    ∙ ap (holds f) (append-assoc row (c ∷ []) (replicate n c))
-
-after-many : (calls : List Call) (f : Focus) (row : List Change) (c : Change) (n : ℕ) → isPlain c ≡ true → after calls ≡ holds f row
-    → length row + n ≤ 64 → after (calls ++ replicate n (change c)) ≡ holds f (row ++ replicate n c)
-after-many calls f row c n p e r =
-    after-append empty calls (replicate n (change c)) ∙ rw e (plain-many f c p n row r)
-
--- n turns or mirrors that bring every point back
-restores-many : (calls : List Call) (f : Focus) (row : List Change) (c : Change) (n : ℕ) → isPlain c ≡ true → after calls ≡ holds f row
-    → length row + n ≤ 64 → frameAfter (presentFrame f row) (replicate n c) ≡ presentFrame f row → Restores (presentFrame f row) (replicate n c)
-    → ListAlike (calls ++ replicate n (change c)) calls
-restores-many calls f row c n p e r g k =
-    alike (calls ++ replicate n (change c)) calls f (row ++ replicate n c) row
-    (after-many calls f row c n p e r) e (right calls f row e .sound)
-    (frame-append (f .frame) row (replicate n c) ∙ g)
-    (restored f row (replicate n c) k)
-
-pub four-turns : FourTurns
-unfolding frameAfter
-four-turns calls f row e r = restores-many calls f row turn 4 refl e r refl (four-turns-restore (presentFrame f row))
-
-pub two-mirrors : TwoMirrors
-unfolding frameAfter
-two-mirrors calls f row e r = restores-many calls f row mirror 2 refl e r refl (two-mirrors-restore (presentFrame f row))
-
-pub sixty-four-stand : SixtyFourStand
-unfolding journalStep journalChange changeRefusal
-sixty-four-stand calls f e =
-    let k = after-many calls f [] turn 64 refl e (omega arith) in
-    (k, λ c. answered (calls ++ replicate 64 (change turn)) (holds f (replicate 64 turn)) (change c) k)
-
--- ---- a cut of the whole frame
 -- the present frame has no zero side: the primary, where it is now, fits it
 frame-sides : (f : Focus) (row : List Change) → Right f row → (0 < presentFrame f row .width) × (0 < presentFrame f row .height)
 frame-sides f row r =

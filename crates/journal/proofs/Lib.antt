@@ -8,4 +8,5 @@ pub mod Shown
 pub mod Fitted
 pub mod Refusals
 pub mod Laws
+pub mod Orientations
 pub mod Example

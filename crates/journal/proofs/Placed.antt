@@ -12,31 +12,46 @@ use Rattle.reading.specs.declared.geometry.Size.{Size}
 use Rattle.placing.specs.declared.focus.FocusPoint.{FocusPoint}
 use Rattle.placing.specs.Load.{noPoint}
 use Rattle.sheet.specs.declared.edits.Edit.{Edit}
-use Rattle.sheet.specs.declared.edits.Edit.the-variants.{Cut, Turn, Mirror}
+use Rattle.sheet.specs.declared.edits.Edit.the-variants.{Cut, Orient}
 use Rattle.sheet.specs.declared.edits.Carried.{Carried}
+use Rattle.sheet.specs.declared.orientation.Framed.{Framed}
+use Rattle.sheet.specs.declared.orientation.Orientation.{Orientation}
+use Rattle.sheet.specs.declared.orientation.Orientation.the-variants.{Normal, FlipHorizontal, Rotate180, FlipVertical, Transpose, Rotate90, Transverse, Rotate270}
 use Rattle.sheet.specs.declared.Sheet.{Sheet}
 use Rattle.sheet.specs.Place.{editAt, staysOn, cutPoint, moved, placed}
+use Rattle.sheet.specs.Orientation.{orientationNumber, framed, turnedBy, stepsOf, orientedBy}
 use Rattle.sheet.specs.Sheet.{placedAt}
 use Rattle.sheet.specs.Lists.{ifCarried, listedTo}
 use Rattle.sheet.specs.Listing.{six, flat}
 use Rattle.sheet.proofs.Words.{stored-kept}
-use Rattle.journal.specs.Journal.{Change, cut, turn, mirror, frameBy, movedBy, frameAfter, carried, ifListed, listed, numbers}
+use Rattle.journal.specs.Journal.{Change, cut, orient, frameThrough, pointThrough, numberedSteps, frameBy, pointBy, movedBy, frameAfter, carried, ifListed, listed, numbers}
 use Rattle.journal.proofs.Carry.{frame-snoc, carried-snoc, listed-snoc}
 
 -- ---- one edit
 abbrev pub changeOf : Edit → Change
 changeOf (Cut l t w h) = cut l t w h
-changeOf Turn = turn
-changeOf Mirror = mirror
+changeOf (Orient o) = orient (orientationNumber o)
 
 abbrev pub pointOf : Carried → Option FocusPoint
 pointOf q = cond (q .listed) (some (q .point)) none
 
+-- an orientation, as the sheet and as the journal take its steps
+pub oriented-is : (o : Orientation) (f : Size) (p : FocusPoint)
+    → orientedBy o (framed f p) ≡ framed (frameBy (orient (orientationNumber o)) f) (pointBy (orient (orientationNumber o)) f p)
+unfolding orientationNumber turnedBy stepsOf orientedBy frameThrough pointThrough numberedSteps
+oriented-is Normal f p = refl
+oriented-is FlipHorizontal f p = refl
+oriented-is Rotate180 f p = refl
+oriented-is FlipVertical f p = refl
+oriented-is Transpose f p = refl
+oriented-is Rotate90 f p = refl
+oriented-is Transverse f p = refl
+oriented-is Rotate270 f p = refl
+
 pub moved-frame : (e : Edit) (q : Carried) → moved e q .frame ≡ frameBy (changeOf e) (q .frame)
 unfolding moved cutPoint
 moved-frame (Cut l t w h) q = refl
-moved-frame Turn q = refl
-moved-frame Mirror q = refl
+moved-frame (Orient o) q = ap (λ (r : Framed). r .frame) (oriented-is o (q .frame) (q .point))
 
 pub moved-point : (e : Edit) (q : Carried) → pointOf (moved e q) ≡ movedBy (changeOf e) (q .frame) (pointOf q)
 unfolding moved cutPoint staysOn
@@ -47,10 +62,8 @@ moved-point e q = by e (q .listed)
         pointOf (moved e r) ≡ movedBy (changeOf e) (q .frame) (pointOf r)
     by (Cut l t w h) true = refl
     by (Cut l t w h) false = refl
-    by Turn true = refl
-    by Turn false = refl
-    by Mirror true = refl
-    by Mirror false = refl
+    by (Orient o) true = ap (λ (r : Framed). some (r .point)) (oriented-is o (q .frame) (q .point))
+    by (Orient o) false = refl
 
 -- ---- n edits
 -- the first n edits of a row of words

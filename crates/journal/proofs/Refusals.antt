@@ -3,7 +3,7 @@
 use Prim.Native.Nat.{ℕ, suc, _+_, _*_, _<_}
 use mathlib.Core.Bool.{Bool, true, false, _||_, cond, false≢true}
 use mathlib.Core.List.{List, [], _∷_, _++_}
-use mathlib.Core.Logic.{inl, inr}
+use mathlib.Core.Logic.{_⊎_, inl, inr}
 use mathlib.Core.Option.{Option, none, some}
 use mathlib.Core.Path.{_≡_, refl, sym, ap, subst, _∙_}
 use lib.Dec.{leb, ltb, eqb}
@@ -18,9 +18,9 @@ use Rattle.placing.specs.Fit.{hasZeroSide}
 use Rattle.laws.proofs.Tests.{neither, or-first, or-second}
 use Rattle.placing.specs.Focus.{focusOf}
 use Rattle.placing.specs.Load.{Focus}
-use Rattle.journal.specs.Journal.{Change, cut, turn, mirror, Journal, empty, holds, stillListed, presentFrame, listing, primaryAfter, fitted, Answer, no, ok, ended, isBadCut, cutRefusal, changeRefusal, backRefusal, journalLoad, journalChange, journalBack, head, numbers, written, journalList, journalFit}
+use Rattle.journal.specs.Journal.{Change, cut, orient, Journal, empty, holds, stillListed, presentFrame, listing, primaryAfter, fitted, Answer, no, ok, ended, isBadCut, isOutside, ownRefusal, changeRefusal, backRefusal, journalLoad, journalChange, journalBack, head, numbers, written, journalList, journalFit}
 use Rattle.journal.specs.Calls.{Call, load, change, back, list, fit, lent, journalStep, journalAfter}
-use Rattle.journal.specs.Claim.{after, newest, lastFrom, heldLoad, HoldsLastLoad, isLoad, EmptyBefore, BadCut, GoodCut, Refuses, notLoaded, isEmpty, full, badCut, dropsPrimary, nothingStands, zeroBox, short, shortFit, RefusedExactly}
+use Rattle.journal.specs.Claim.{after, newest, lastFrom, heldLoad, HoldsLastLoad, isLoad, EmptyBefore, BadCut, GoodCut, Refuses, notLoaded, isEmpty, full, badCut, dropsPrimary, outside, nothingStands, zeroBox, short, shortFit, RefusedExactly}
 use Rattle.journal.proofs.Answers.{answers}
 use Rattle.journal.proofs.Fitted.{fitted-length}
 
@@ -137,15 +137,32 @@ module _ (l t w h : ℕ) (f : Size) where
         le-ltb (f .height) (t + h) (g .down),
       )
 
+outside-told : (n : ℕ) → isOutside n ≡ true → (n < 1) ⊎ (8 < n)
+unfolding isOutside
+outside-told n e = by (ltb n 1) (ltb 8 n) refl refl e
+  where
+    by : (a b : Bool) → ltb n 1 ≡ a → ltb 8 n ≡ b → (a || b) ≡ true → (n < 1) ⊎ (8 < n)
+    by true b p q y = inl (ltb-true n 1 p)
+    by false true p q y = inr (ltb-true 8 n q)
+    by false false p q y = absurd (false≢true y)
+
+outside-of : (n : ℕ) → (n < 1) ⊎ (8 < n) → isOutside n ≡ true
+unfolding isOutside
+outside-of n (inl a) = or-first (ltb n 1) (ltb 8 n) (lt-ltb n 1 a)
+outside-of n (inr a) = or-second (ltb n 1) (ltb 8 n) (lt-ltb 8 n a)
+
 not-listed : (o : Option FocusPoint) → stillListed o ≡ false → o ≡ none
 not-listed none e = refl
 not-listed (some p) e = absurd (false≢true (sym e))
 
-cut-refuses : (f : Focus) (row : List Change) (c : Change) (n : ℕ) → length row < 64 → cutRefusal f row c ≡ some n
+own-refuses : (f : Focus) (row : List Change) (c : Change) (n : ℕ) → length row < 64 → ownRefusal f row c ≡ some n
     → Refuses (holds f row) (change c) n
-cut-refuses f row turn n r e = absurd (no-number n e)
-cut-refuses f row mirror n r e = absurd (no-number n e)
-cut-refuses f row (cut l t w h) n r e =
+own-refuses f row (orient m) n r e = by (isOutside m) refl e
+  where
+    by : (b : Bool) → isOutside m ≡ b → cond b (some 15) none ≡ some n → Refuses (holds f row) (change (orient m)) n
+    by true p y = some-number (outside r (outside-told m p)) y
+    by false p y = absurd (no-number n y)
+own-refuses f row (cut l t w h) n r e =
     by (isBadCut l t w h (presentFrame f row)) (stillListed (primaryAfter f (row ++ cut l t w h ∷ []))) refl refl e
   where
     by : (a b : Bool) → isBadCut l t w h (presentFrame f row) ≡ a → stillListed (primaryAfter f (row ++ cut l t w h ∷ [])) ≡ b
@@ -159,9 +176,9 @@ change-refuses : (f : Focus) (row : List Change) (c : Change) (n : ℕ) → chan
 unfolding changeRefusal
 change-refuses f row c n e = by (leb 64 (length row)) refl e
   where
-    by : (b : Bool) → leb 64 (length row) ≡ b → cond b (some 8) (cutRefusal f row c) ≡ some n → Refuses (holds f row) (change c) n
+    by : (b : Bool) → leb 64 (length row) ≡ b → cond b (some 8) (ownRefusal f row c) ≡ some n → Refuses (holds f row) (change c) n
     by true p y = some-number (full (leb-true 64 (length row) p)) y
-    by false p y = cut-refuses f row c n (leb-false 64 (length row) p) y
+    by false p y = own-refuses f row c n (leb-false 64 (length row) p) y
 
 back-refuses : (f : Focus) (row : List Change) (n : ℕ) → backRefusal row ≡ some n → Refuses (holds f row) back n
 unfolding backRefusal
@@ -226,6 +243,7 @@ says (badCut {f = f} {standing = row} {left = l} {top = t} {width = w} {height =
     rw (lt-leb 64 (length row) r, bad-of l t w h (presentFrame f row) d)
 says (dropsPrimary {f = f} {standing = row} {left = l} {top = t} {width = w} {height = h} r g e) =
     rw (lt-leb 64 (length row) r, good-of l t w h (presentFrame f row) g, e)
+says (outside {standing = row} {n = n} r d) = rw (lt-leb 64 (length row) r, outside-of n d)
 says nothingStands = refl
 says (zeroBox z) = rw z
 says (short {f = f} {standing = row} {buffer = b} l) = rw (lt-ltb (length b) (6 * length (listing f row)) l)

@@ -10,7 +10,7 @@ use Rattle.journal.specs.Journal.{Change, Journal, Answer, journalLoad, 
 pub data Call : Type 0 where
   -- "block, raw and picture sizes (each may be missing) and model"
   load : List ℕ → OptionalSize → OptionalSize → List ℕ → Call
-  -- cut, turn or mirror
+  -- cut or orientation
   change : Change → Call
   back : Call
   -- with what the lent buffer holds

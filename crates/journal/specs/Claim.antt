@@ -18,7 +18,7 @@ use Rattle.placing.specs.Focus.{focusOf}
 use Rattle.placing.specs.Load.{Focus, noPoint}
 use Rattle.sheet.specs.declared.Sheet.{Sheet}
 use Rattle.sheet.specs.Sheet.{freshSheet}
-use Rattle.journal.specs.Journal.{Change, cut, Journal, empty, holds, frameBy, pointBy, staysListed, presentFrame, listing, primaryIndex, primaryOf, primaryAfter, fitted, Answer, no, ok, numbers, head}
+use Rattle.journal.specs.Journal.{Change, cut, orient, Journal, empty, holds, frameBy, pointBy, staysListed, presentFrame, listing, primaryIndex, primaryOf, primaryAfter, fitted, Answer, no, ok, numbers, head}
 use Rattle.journal.specs.Calls.{Call, load, change, back, list, fit, lent, runJournal, journalAfter}
 use Rattle.journal.specs.SheetCalls.{sheetStep, runSheet, sheetAfter}
 
@@ -141,8 +141,8 @@ pub record GoodCut (left top width height : ℕ) (f : Size) : Type 0 where
   pub across : left + width ≤ f .width
   pub down : top + height ≤ f .height
 
--- when a number is the lowest that applies to a call, from what the journal holds: "Load can give 1 to 6; cut 7 to 10; turn and
--- mirror 7, 8; back 7, 11; list 7, 13; fit 7, 12, 13"
+-- when a number is the lowest that applies to a call, from what the journal holds: "Load can give 1 to 6; cut 7 to 10; .. back 7, 11;
+-- list 7, 13; fit 7, 12, 13"; 02: an orientation is "judged by 7, 8 and 15"
 pub data Refuses : Journal → Call → ℕ → Type 0 where
   -- 1 to 6, as demand 2 says
   notLoaded : {j : Journal} {block : List ℕ} {raw picture : OptionalSize} {model : List ℕ} {n : ℕ}
@@ -158,6 +158,9 @@ pub data Refuses : Journal → Call → ℕ → Type 0 where
   dropsPrimary : {f : Focus} {standing : List Change} {left top width height : ℕ} → length standing < 64
       → GoodCut left top width height (presentFrame f standing) → primaryAfter f (standing ++ cut left top width height ∷ []) ≡ none
       → Refuses (holds f standing) (change (cut left top width height)) 10
+  -- "number outside 1 to 8, after 8"
+  outside : {f : Focus} {standing : List Change} {n : ℕ} → length standing < 64 → (n < 1) ⊎ (8 < n)
+      → Refuses (holds f standing) (change (orient n)) 15
   -- "back, but no edit stands"
   nothingStands : {f : Focus} → Refuses (holds f []) back 11
   -- "box for fitting has a zero side"

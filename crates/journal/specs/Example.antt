@@ -1,5 +1,5 @@
--- 01's whole case as calls: the block and the model of its first line, then a turn, a cut and a list call, with a buffer of one
--- place more than the listing needs.
+-- 01's whole case as calls, with 02's orientation: the block and the model of its first line, then orientation 6, a cut and a list call,
+-- with a buffer of one place more than the listing needs.
 use Prim.Native.Nat.{ℕ}
 use mathlib.Core.List.{List, [], _∷_}
 use mathlib.Core.Path.{_≡_}
@@ -7,7 +7,7 @@ use lib.ListN.{replicate}
 use Rattle.reading.specs.declared.geometry.OptionalSize.the-variants.{Missing}
 use Rattle.placing.specs.Points.{d600}
 use Rattle.sheet.specs.Sheet.{freshSheet}
-use Rattle.journal.specs.Journal.{cut, turn, ok}
+use Rattle.journal.specs.Journal.{cut, orient, ok}
 use Rattle.journal.specs.Calls.{Call, load, change, list}
 use Rattle.journal.specs.SheetCalls.{runSheet}
 
@@ -20,7 +20,7 @@ block =
     0 ∷ 0 ∷ 0 ∷ 0 ∷ []
 
 abbrev pub wholeCase : List Call
-wholeCase = load block Missing Missing d600 ∷ change turn ∷ change (cut 1900 2900 400 400) ∷ list (replicate 7 9) ∷ []
+wholeCase = load block Missing Missing d600 ∷ change (orient 6) ∷ change (cut 1900 2900 400 400) ∷ list (replicate 7 9) ∷ []
 
 -- three times "ok"; then "frame 400 400 points 1 primary 0 mode 1 origin 2" and "1 109 108 164 164 0". The seventh place of the buffer is kept
 abbrev pub WholeCase : Type 0

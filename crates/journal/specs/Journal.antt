@@ -1,6 +1,6 @@
 -- 01, "Book": what the calls alone say. The journal is fed each call with its arguments, except the sheet, and every answer is
 -- worked out from what it holds. Of the sheet it knows nothing: the two share what one load gives, when a point fits a frame, how
--- it is scaled, and 01's numbers for modes, origins and in-focus.
+-- it is scaled, and 01's numbers for modes, origins and in-focus. 02's orientations are here in the journal's own words.
 use Prim.Native.Nat.{ℕ, _+_, _-_, _*_}
 use mathlib.Core.Bool.{Bool, true, false, _&&_, _||_, cond}
 use mathlib.Core.List.{List, [], _∷_, _++_, map}
@@ -15,11 +15,10 @@ use Rattle.placing.specs.Fit.{hasZeroSide, pointFits}
 use Rattle.placing.specs.Scale.{scaledPoint}
 use Rattle.placing.specs.Load.{Focus, noPoint, originNumber}
 
--- an edit: "Cut left, top, width, height", turn (a clockwise quarter rotation), mirror
+-- an edit: "Cut left, top, width, height", or an orientation with its number
 pub data Change : Type 0 where
   cut : ℕ → ℕ → ℕ → ℕ → Change
-  turn : Change
-  mirror : Change
+  orient : ℕ → Change
 
 -- "It is empty, or holds a load and a row of standing edits": of the load "the frame, points in order, primary, area mode and
 -- origin that demand 2's definition gives"
@@ -27,26 +26,67 @@ pub data Journal : Type 0 where
   empty : Journal
   holds : Focus → List Change → Journal
 
--- ---- one edit
--- a cut "makes width by height the frame"; at a turn "frame and areas swap sides"
-abbrev pub frameBy : Change → Size → Size
-frameBy (cut left top width height) f = record { width = width; height = height }
-frameBy turn f = record { width = f .height; height = f .width }
-frameBy mirror f = f
+-- ---- turns and mirrors
+-- 01's turn, a clockwise quarter rotation, and mirror
+pub data Step : Type 0 where
+  turn : Step
+  mirror : Step
+
+-- at a turn "frame and areas swap sides"
+abbrev pub frameAt : Step → Size → Size
+frameAt turn f = record { width = f .height; height = f .width }
+frameAt mirror f = f
 
 -- "number and in-focus unchanged"
 abbrev pub movedTo : FocusPoint → ℕ → ℕ → Size → FocusPoint
 movedTo p x y a =
     record { number = p .number; center = record { x = x; y = y }; size = a; «in_focus» = p .«in_focus» }
 
--- where an edit moves a point of a frame w by h: a cut "subtracts (left, top)"; at a turn "(x, y) goes to (h − y, x), frame and
--- areas swap sides"; "Mirror: (w − x, y)"
-abbrev pub pointBy : Change → Size → FocusPoint → FocusPoint
-pointBy (cut left top width height) f p = movedTo p (p .center .x - left) (p .center .y - top) (p .size)
-pointBy turn f p =
+-- where a step moves a point of a frame w by h: at a turn "(x, y) goes to (h − y, x), frame and areas swap sides"; "Mirror:
+-- (w − x, y)"
+abbrev pub pointAt : Step → Size → FocusPoint → FocusPoint
+pointAt turn f p =
     movedTo p (f .height - p .center .y) (p .center .x)
     (record { width = p .size .height; height = p .size .width })
-pointBy mirror f p = movedTo p (f .width - p .center .x) (p .center .y) (p .size)
+pointAt mirror f p = movedTo p (f .width - p .center .x) (p .center .y) (p .size)
+
+-- one step after the other
+unfoldable pub frameThrough : List Step → Size → Size
+frameThrough [] f = f
+frameThrough (s ∷ ss) f = frameThrough ss (frameAt s f)
+
+unfoldable pub pointThrough : List Step → Size → FocusPoint → FocusPoint
+pointThrough [] f p = p
+pointThrough (s ∷ ss) f p = pointThrough ss (frameAt s f) (pointAt s f p)
+
+-- 02: "1 nothing, 2 mirror, 3 two turns, 4 mirror then two turns, 5 mirror then three turns, 6 one turn, 7 mirror then one turn,
+-- 8 three turns"
+abbrev pub orientations : List (List Step)
+orientations =
+    [] ∷
+    (mirror ∷ []) ∷
+    (turn ∷ turn ∷ []) ∷
+    (mirror ∷ turn ∷ turn ∷ []) ∷
+    (mirror ∷ turn ∷ turn ∷ turn ∷ []) ∷
+    (turn ∷ []) ∷
+    (mirror ∷ turn ∷ []) ∷
+    (turn ∷ turn ∷ turn ∷ []) ∷
+    []
+
+-- the steps of a number from 1 to 8: no other stands in a row
+unfoldable pub numberedSteps : ℕ → List Step
+numberedSteps n = getD orientations (n - 1) []
+
+-- ---- one edit
+-- a cut "makes width by height the frame"
+abbrev pub frameBy : Change → Size → Size
+frameBy (cut left top width height) f = record { width = width; height = height }
+frameBy (orient n) f = frameThrough (numberedSteps n) f
+
+-- a cut "subtracts (left, top)"
+abbrev pub pointBy : Change → Size → FocusPoint → FocusPoint
+pointBy (cut left top width height) f p = movedTo p (p .center .x - left) (p .center .y - top) (p .size)
+pointBy (orient n) f p = pointThrough (numberedSteps n) f p
 
 -- "If at a cut, once moved, it doesn't fit the cut's frame, it is unlisted." A coordinate that the cut would bring below 0 is
 -- off that frame
@@ -55,8 +95,7 @@ staysListed (cut left top width height) f p =
     leb left (p .center .x) &&
     (leb top (p .center .y) &&
     pointFits (record { width = width; height = height }) (pointBy (cut left top width height) f p))
-staysListed turn f p = true
-staysListed mirror f p = true
+staysListed (orient n) f p = true
 
 -- ---- the row of standing edits
 -- "The present frame is the load's, changed by each standing edit in order."
@@ -110,7 +149,7 @@ abbrev pub fitted : Focus → List Change → Size → List FocusPoint
 fitted load standing box = map (λ p. scaledPoint p (presentFrame load standing) box) (listing load standing)
 
 -- ---- how calls end
--- refused by one of 01's numbers, or accepted with the numbers that the call gives (none, or a listing's head); and the buffer
+-- refused by one of the documents' numbers, or accepted with the numbers that the call gives (none, or a listing's head); and the buffer
 -- as the call leaves it (of a call that is lent none: no places)
 pub record Answer : Type 0 where
   pub outcome : Outcome (List ℕ)
@@ -138,23 +177,27 @@ unfoldable pub isBadCut : ℕ → ℕ → ℕ → ℕ → Size → Bool
 isBadCut left top width height f =
     eqb width 0 || (eqb height 0 || (ltb (f .width) (left + width) || ltb (f .height) (top + height)))
 
--- 9, then 10: "cut would drop the primary"
-abbrev pub cutRefusal : Focus → List Change → Change → Option ℕ
-cutRefusal load standing (cut left top width height) =
+-- 15: "number outside 1 to 8"
+unfoldable pub isOutside : ℕ → Bool
+isOutside n = ltb n 1 || ltb 8 n
+
+-- of a cut 9, then 10: "cut would drop the primary"; of an orientation 15
+abbrev pub ownRefusal : Focus → List Change → Change → Option ℕ
+ownRefusal load standing (cut left top width height) =
     cond (isBadCut left top width height (presentFrame load standing)) (some 9)
     (cond (stillListed (primaryAfter load (standing ++ cut left top width height ∷ []))) none (some 10))
-cutRefusal load standing turn = none
-cutRefusal load standing mirror = none
+ownRefusal load standing (orient n) = cond (isOutside n) (some 15) none
 
 -- 8: "64 edits stand"
 abbrev pub isFull : List Change → Bool
 isFull standing = leb 64 (length standing)
 
--- the lowest number that applies to an edit, 7 apart
+-- the lowest number that applies to an edit, 7 apart: 8, then its own ("15, .. after 8")
 unfoldable pub changeRefusal : Focus → List Change → Change → Option ℕ
-changeRefusal load standing c = cond (isFull standing) (some 8) (cutRefusal load standing c)
+changeRefusal load standing c = cond (isFull standing) (some 8) (ownRefusal load standing c)
 
--- 7: "sheet is empty". "An accepted cut, turn or mirror joins the row's end"
+-- 7: "sheet is empty". "An accepted cut, turn or mirror joins the row's end", and so does an orientation in place of the two: "Each is
+-- a single edit."
 unfoldable pub journalChange : Journal → Change → Answer × Journal
 journalChange empty c = (no 7 [], empty)
 journalChange (holds load standing) c =

@@ -1,14 +1,19 @@
--- Laws of lists of calls and of the journal, which show that the claim is no empty promise: edits undo one another as they do on a picture
--- in the hand, every edit of a row moves what is listed before it, and 64 edits can stand. proofs/Laws.antt proves them.
+-- Laws of lists of calls and of the journal, which show that the claim is no empty promise: orientations come to one, edits undo one
+-- another as they do on a picture in the hand, every edit of a row moves what is listed before it, and 64 edits can stand.
+-- proofs/Orientations.antt (orientation calls) and Laws.antt (the others) prove them.
 use Prim.Native.Nat.{ℕ, _+_, _≤_, _<_}
-use mathlib.Core.List.{List, [], _∷_, _++_}
+use mathlib.Core.List.{List, [], _∷_, _++_, map}
 use mathlib.Core.Option.{none, some}
 use mathlib.Core.Path.{_≡_}
 use lib.ListN.{length, replicate}
 use Rattle.reading.specs.declared.geometry.Size.{Size}
 use Rattle.placing.specs.declared.focus.FocusPoint.{FocusPoint}
 use Rattle.placing.specs.Load.{Focus}
-use Rattle.journal.specs.Journal.{Change, cut, turn, mirror, holds, movedBy, carried, ifListed, presentFrame, listing, no, ok}
+use Rattle.sheet.specs.declared.orientation.Orientation.{Orientation}
+use Rattle.sheet.specs.declared.orientation.Orientation.the-variants.{Normal}
+use Rattle.sheet.specs.Orientation.{orientationNumber}
+use Rattle.sheet.specs.OrientationLaws.{productOf}
+use Rattle.journal.specs.Journal.{Change, cut, orient, holds, movedBy, carried, ifListed, presentFrame, listing, no, ok}
 use Rattle.journal.specs.Calls.{Call, change, back, list, fit}
 use Rattle.journal.specs.Claim.{after, answer}
 
@@ -17,16 +22,37 @@ pub record ListAlike (calls others : List Call) : Type 0 where
   pub lists : (buffer : List ℕ) → answer calls (list buffer) ≡ answer others (list buffer)
   pub fits : (box : Size) (buffer : List ℕ) → answer calls (fit box buffer) ≡ answer others (fit box buffer)
 
--- four turns give the same listing, and so do two mirrors
-abbrev pub FourTurns : Type 0
-FourTurns =
-    (calls : List Call) (f : Focus) (standing : List Change) → after calls ≡ holds f standing → length standing + 4 ≤ 64
-    → ListAlike (calls ++ replicate 4 (change turn)) calls
+-- the edit and the call of an orientation
+abbrev pub orientationChange : Orientation → Change
+orientationChange o = orient (orientationNumber o)
 
-abbrev pub TwoMirrors : Type 0
-TwoMirrors =
+abbrev pub orientationCall : Orientation → Call
+orientationCall o = change (orientationChange o)
+
+-- 02, "a single one of the eight places every point on every frame as the list does": a list of orientation calls for which there is
+-- room lists and fits like the one call of their product
+abbrev pub AsOneCall : Type 0
+AsOneCall =
+    (calls : List Call) (f : Focus) (standing : List Change) (os : List Orientation) → after calls ≡ holds f standing
+    → length standing + length os ≤ 64
+    → ListAlike (calls ++ map orientationCall os) (calls ++ orientationCall (productOf os) ∷ [])
+
+-- orientations that come to number 1 change nothing listed
+abbrev pub NothingTogether : Type 0
+NothingTogether =
+    (calls : List Call) (f : Focus) (standing : List Change) (os : List Orientation) → after calls ≡ holds f standing
+    → length standing + length os ≤ 64 → productOf os ≡ Normal → ListAlike (calls ++ map orientationCall os) calls
+
+-- so do four turns, and so do two mirrors
+abbrev pub FourTurnCalls : Type 0
+FourTurnCalls =
+    (calls : List Call) (f : Focus) (standing : List Change) → after calls ≡ holds f standing → length standing + 4 ≤ 64
+    → ListAlike (calls ++ replicate 4 (change (orient 6))) calls
+
+abbrev pub TwoMirrorCalls : Type 0
+TwoMirrorCalls =
     (calls : List Call) (f : Focus) (standing : List Change) → after calls ≡ holds f standing → length standing + 2 ≤ 64
-    → ListAlike (calls ++ replicate 2 (change mirror)) calls
+    → ListAlike (calls ++ replicate 2 (change (orient 2))) calls
 
 -- a cut of the whole present frame is accepted and changes nothing listed
 abbrev pub wholeCut : Size → Call
@@ -44,12 +70,12 @@ BackUndoes =
     (calls : List Call) (c : Change) → answer calls (change c) ≡ ok [] []
     → (d : Call) → answer (calls ++ change c ∷ back ∷ []) d ≡ answer calls d
 
--- 64 edits can stand after a load, and then a further one is refused by 8
+-- "Each is a single edit": after a load 64 orientations can stand, number 1 among them, and then a further edit is refused by 8
 abbrev pub SixtyFourStand : Type 0
 SixtyFourStand =
-    (calls : List Call) (f : Focus) → after calls ≡ holds f []
-    → (after (calls ++ replicate 64 (change turn)) ≡ holds f (replicate 64 turn))
-    × ((c : Change) → answer (calls ++ replicate 64 (change turn)) (change c) ≡ no 8 [])
+    (calls : List Call) (f : Focus) (os : List Orientation) → after calls ≡ holds f [] → length os ≡ 64
+    → (after (calls ++ map orientationCall os) ≡ holds f (map orientationChange os))
+    × ((c : Change) → answer (calls ++ map orientationCall os) (change c) ≡ no 8 [])
 
 -- an edit more moves every listed point by that edit, and a cut unlists those that do not fit
 unfoldable pub movedAll : Change → Size → List FocusPoint → List FocusPoint

@@ -5,9 +5,9 @@ use lib.ListN.{length}
 use Rattle.reading.specs.Outcome.{Outcome}
 use Rattle.placing.specs.Focus.{focusOf}
 use Rattle.sheet.specs.declared.Sheet.{Sheet}
-use Rattle.sheet.specs.Sheet.{loadSheet, turnSheet, mirrorSheet, backSheet, cutSheet}
+use Rattle.sheet.specs.Sheet.{loadSheet, orientSheet, cutSheet, backSheet}
 use Rattle.sheet.specs.Lists.{listOutcome, listBuffer, fitOutcome, fitBuffer}
-use Rattle.journal.specs.Journal.{Change, cut, turn, mirror, Answer}
+use Rattle.journal.specs.Journal.{Change, cut, orient, Answer}
 use Rattle.journal.specs.Calls.{Call, load, change, back, list, fit}
 
 -- of a call that gives nothing but a sheet
@@ -20,8 +20,7 @@ afterList outcome buffer s = (record { outcome = outcome; buffer = buffer }, s)
 
 abbrev pub changed : Sheet → Change → Outcome (List ℕ) × Sheet
 changed s (cut left top width height) = cutSheet s left top width height
-changed s turn = turnSheet s
-changed s mirror = mirrorSheet s
+changed s (orient n) = orientSheet s n
 
 -- how a call ends, and the sheet after it
 unfoldable pub sheetStep : Sheet → Call → Answer × Sheet

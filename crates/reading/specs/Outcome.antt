@@ -1,4 +1,4 @@
--- How a call ends: refused by one of 01's numbers, or accepted with a value.
+-- How a call ends: refused by one of the documents' numbers, or accepted with a value.
 use Prim.Native.Nat.{ℕ, min}
 use mathlib.Core.Bool.{Bool, true, false}
 

@@ -13,17 +13,17 @@ use Rattle.placing.specs.Named.{pictureIs, uncropped, placedFrame, marked, fits
 use Rattle.placing.specs.Focus.{recordsPosition, placedOf, focusOf}
 use Rattle.reading.specs.Note.{valuesIn, valuesOf}
 use Rattle.placing.specs.Load.{originNumber}
-use Rattle.journal.specs.Journal.{frameAfter, carried, listed, isBadCut, journalLoad, changeRefusal, journalChange, numbers, written, journalList}
+use Rattle.journal.specs.Journal.{frameThrough, pointThrough, numberedSteps, frameAfter, carried, listed, isBadCut, isOutside, journalLoad, changeRefusal, journalChange, numbers, written, journalList}
 use Rattle.journal.specs.Calls.{journalStep}
 use Rattle.text.specs.Number.{digitsIn, digitsOf}
 use Rattle.answers.specs.Answers.{headText, pointText, pointsText}
 use Rattle.hex.specs.Hex.{digitOf, allDigits, wellFormed, halfOf, bytesOf, sum}
-use Rattle.calls.specs.Format.{sidesAt, modelPart, blockPart, sidesAgree, optional, wellFormedLoad, loadCall, cutCall, byCode, callOf}
+use Rattle.calls.specs.Format.{sidesAt, modelPart, blockPart, sidesAgree, optional, wellFormedLoad, loadCall, cutCall, orientCall, byCode, callOf}
 use Rattle.session.specs.Lines.{spelledIn, spelled}
 use Rattle.session.specs.Texts.{givenText, journalTexts}
 use Rattle.script.specs.Script.{linesFrom, scriptText}
 use Rattle.script.specs.Example.{WholeCaseText}
 
 pub whole-case-text : WholeCaseText
-unfolding same u16Of u32Of shortsOf offsetOf entryCount directoryOf inOrder byMark blockOf sizeOf entryOf hasTag firstOf findOf manualFocusOf cropHiSpeedOf cropAreaOf layoutAmong layoutOf areaModeOf maskOf sizeAt recordIn recordOf afInfo2Of inFocusNumber modeNumber axisFits hasZeroSide centerLiesOn areaFits noArea liesOn pointFits tableOf pictureIs uncropped placedFrame marked fitsWindow isNamed isListed listedFrom hasNumber indexOf placedIn windowOf namedOutcome recordsPosition placedOf valuesIn valuesOf focusOf originNumber frameAfter carried listed isBadCut journalLoad changeRefusal journalChange numbers written journalList journalStep digitsIn digitsOf headText pointText pointsText digitOf allDigits wellFormed halfOf bytesOf sum sidesAt modelPart blockPart sidesAgree optional wellFormedLoad loadCall cutCall byCode callOf spelledIn spelled givenText journalTexts linesFrom flatten scriptText
+unfolding same u16Of u32Of shortsOf offsetOf entryCount directoryOf inOrder byMark blockOf sizeOf entryOf hasTag firstOf findOf manualFocusOf cropHiSpeedOf cropAreaOf layoutAmong layoutOf areaModeOf maskOf sizeAt recordIn recordOf afInfo2Of inFocusNumber modeNumber axisFits hasZeroSide centerLiesOn areaFits noArea liesOn pointFits tableOf pictureIs uncropped placedFrame marked fitsWindow isNamed isListed listedFrom hasNumber indexOf placedIn windowOf namedOutcome recordsPosition placedOf valuesIn valuesOf focusOf originNumber frameThrough pointThrough numberedSteps frameAfter carried listed isBadCut isOutside journalLoad changeRefusal journalChange numbers written journalList journalStep digitsIn digitsOf headText pointText pointsText digitOf allDigits wellFormed halfOf bytesOf sum sidesAt modelPart blockPart sidesAgree optional wellFormedLoad loadCall cutCall orientCall byCode callOf spelledIn spelled givenText journalTexts linesFrom flatten scriptText
 whole-case-text = refl

@@ -1,5 +1,5 @@
--- 01's whole case, byte for byte: the four lines of the script, and the five that are printed. proofs/Example.antt computes that the one
--- is answered by the other.
+-- 01's whole case, byte for byte, with 02's line: the four lines of the script, and the five that are printed. proofs/Example.antt
+-- computes that the one is answered by the other.
 use Prim.Native.Nat.{ℕ}
 use mathlib.Core.List.{List, [], _∷_, flatten}
 use mathlib.Core.Path.{_≡_}
@@ -18,10 +18,10 @@ loadLine =
     48 ∷ 48 ∷ 48 ∷ 48 ∷ 48 ∷ 48 ∷ 48 ∷ 48 ∷ 48 ∷ 48 ∷ 48 ∷ 48 ∷ 48 ∷ 48 ∷ 48 ∷ 48 ∷ 48 ∷ 48 ∷ 48 ∷ 48 ∷
     48 ∷ 48 ∷ 55 ∷ 55 ∷ 10 ∷ []
 
--- 03FD
-abbrev turnLine : List ℕ
-turnLine =
-    48 ∷ 51 ∷ 70 ∷ 68 ∷ 10 ∷ []
+-- 02: "In 01's whole case the line 03FD becomes 0906F1, and the output is the same."
+abbrev orientLine : List ℕ
+orientLine =
+    48 ∷ 57 ∷ 48 ∷ 54 ∷ 70 ∷ 49 ∷ 10 ∷ []
 
 -- 020000076C00000B5400000190000001900A
 abbrev cutLine : List ℕ
@@ -35,7 +35,7 @@ listLine =
     48 ∷ 54 ∷ 70 ∷ 65 ∷ 10 ∷ []
 
 abbrev pub wholeScript : List ℕ
-wholeScript = flatten (loadLine ∷ turnLine ∷ cutLine ∷ listLine ∷ [])
+wholeScript = flatten (loadLine ∷ orientLine ∷ cutLine ∷ listLine ∷ [])
 
 -- three times "ok", then "frame 400 400 points 1 primary 0 mode 1 origin 2" and "1 109 108 164 164 0"
 abbrev okLine : List ℕ

@@ -13,7 +13,7 @@ use Rattle.hex.specs.Hex.{wellFormed, bytesOf}
 use Rattle.hex.specs.Laws.{AreBytes, lineOf, ReadsAs}
 use Rattle.hex.proofs.Laws.{bytes-long, well-short}
 use Rattle.hex.proofs.Written.{written-is-read, either-case, read-is-bytes, read-is-written}
-use Rattle.calls.specs.Format.{LineCall, lineLoad, lineCut, lineTurn, lineMirror, lineBack, lineList, lineFit, lineContents, modelLength, modelPart, blockPart, contentsPart, callOf, modelGiven, blockGiven}
+use Rattle.calls.specs.Format.{LineCall, lineLoad, lineCut, lineBack, lineList, lineFit, lineContents, lineOrient, modelLength, modelPart, blockPart, contentsPart, callOf, modelGiven, blockGiven}
 use Rattle.calls.specs.Laws.{checkOf, checked, encoded, Encodes, EncodedOrMalformed, isMalformed, isEncoded}
 use Rattle.calls.proofs.Encoded.{encoded-is-read, encoded-is-bytes}
 use Rattle.calls.proofs.Accepted.{bytes-from, read-is-encoded}
@@ -66,12 +66,11 @@ module _ (b : List ℕ) (h : AreBytes b) where
   given-bytes (lineLoad raw picture) =
       (part 19 (modelLength b), part (19 + modelLength b) (length b - (20 + modelLength b)))
   given-bytes (lineCut left top width height) = (no-bytes, no-bytes)
-  given-bytes lineTurn = (no-bytes, no-bytes)
-  given-bytes lineMirror = (no-bytes, no-bytes)
   given-bytes lineBack = (no-bytes, no-bytes)
   given-bytes lineList = (no-bytes, no-bytes)
   given-bytes (lineFit box) = (no-bytes, no-bytes)
   given-bytes lineContents = (no-bytes, part 1 (length b - 2))
+  given-bytes (lineOrient number) = (no-bytes, no-bytes)
 
 module _ (line b : List ℕ) (r : ReadsAs line b) where
   short-bytes : length b ≤ 2048

@@ -62,6 +62,7 @@ edit-number edit.Full = refl
 edit-number edit.BadCut = refl
 edit-number edit.DropsPrimary = refl
 edit-number edit.NothingStands = refl
+edit-number edit.NoOrientation = refl
 
 refusal-number : (why : Refusal) → numberText (refusalNumber why) ≡ noText (refusalNumber why)
 unfolding numberText refusalNumber
@@ -121,7 +122,7 @@ module _ {o o₁ : List ℕ} {a a₁ : ℕ} where
       tags-are r (λ (y : Outcome (List ℕ)). Puts o a (contentsText y) mostText o₁ a₁) f
       (λ ts l. at-most (rw (l, spaced-front ts (replicate (4 - length ts) 0) (length ts) (omega arith)) at q) (omega arith)) x e
 
-  -- ---- cut, turn, mirror and back
+  -- ---- cut, orient and back
   pub edit-text : (e : Edited) (n : ℕ) → n ≡ numberOf (editMeans (e .answer)) → Puts o a (numberText n) 14 o₁ a₁
       → Puts o a (answerText (afterEdit (editedMeans e) .0)) mostText o₁ a₁
   edit-text e n f p = at-most (rw (f, edit-number (e .answer)) at p) (omega arith)

@@ -5,8 +5,8 @@ use mathlib.Core.List.{List}
 use lib.ListN.{replicate}
 use Rattle.reading.specs.Outcome.{Outcome, refused, accepted}
 use Rattle.hex.specs.Hex.{wellFormed, bytesOf}
-use Rattle.calls.specs.Format.{LineCall, lineLoad, lineCut, lineTurn, lineMirror, lineBack, lineList, lineFit, lineContents, callOf, modelGiven, blockGiven}
-use Rattle.journal.specs.Journal.{cut, turn, mirror}
+use Rattle.calls.specs.Format.{LineCall, lineLoad, lineCut, lineBack, lineList, lineFit, lineContents, lineOrient, callOf, modelGiven, blockGiven}
+use Rattle.journal.specs.Journal.{cut, orient}
 use Rattle.journal.specs.Calls.{Call, load, change, back, list, fit}
 
 -- a question for a block's contents, or a call of the journal (01's book)
@@ -22,12 +22,11 @@ lentBuffer = replicate 234 0
 abbrev pub spelling : LineCall → List ℕ → List ℕ → Spelled
 spelling (lineLoad raw picture) model block = asks (load block raw picture model)
 spelling (lineCut left top width height) model block = asks (change (cut left top width height))
-spelling lineTurn model block = asks (change turn)
-spelling lineMirror model block = asks (change mirror)
 spelling lineBack model block = asks back
 spelling lineList model block = asks (list lentBuffer)
 spelling (lineFit box) model block = asks (fit box lentBuffer)
 spelling lineContents model block = contents block
+spelling (lineOrient number) model block = asks (change (orient number))
 
 -- of a line's bytes, with how they read
 abbrev pub spelledBy : List ℕ → Outcome LineCall → Outcome Spelled

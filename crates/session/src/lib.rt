@@ -15,9 +15,8 @@ ghost use Rattle.text.specs.Put.{Puts};
 ghost use Rattle.reading.specs.Outcome.{refused, accepted};
 ghost use Rattle.sheet.specs.Listing.{listMeans, headNumbers};
 ghost use Rattle.sheet.specs.Sheet.{editedMeans};
-ghost use Rattle.journal.specs.Calls.{load, list, fit, back};
+ghost use Rattle.journal.specs.Calls.{load, list, fit};
 ghost use Rattle.journal.specs.SheetCalls.{afterEdit};
-ghost use Rattle.journal.specs.Journal.{cut};
 ghost use Rattle.calls.specs.Format.{modelPart, blockPart};
 ghost use Rattle.session.specs.Lines.{spelled, spelledIn, contents, asks, lentBuffer};
 ghost use Rattle.session.specs.Texts.{givenText, outcomeText, answerText};
@@ -110,7 +109,7 @@ fn answer_fit(sheet: Sheet, size: Size, out: &mut [u8], at: usize) -> Stepped
     Stepped { sheet, at: next }
 }
 
-// The sheet after cut, turn, mirror or back, and the answer's line.
+// The sheet after cut, orient or back, and the answer's line.
 fn after_edit(edit: Edited, out: &mut [u8], at: usize) -> Stepped
     ensures { λ r. ⌜ (r .sheet ≡ edit .sheet) × Puts (now (out .entry)) at (answerText (afterEdit (editedMeans edit) .0)) mostText (now (out .exit)) (r .at) ⌝ }
 {
@@ -182,12 +181,11 @@ fn answer_bytes(sheet: Sheet, b: &[u8], out: &mut [u8], at: usize) -> Stepped
             width,
             height,
         } => after_edit(sheet.cut(left, top, width, height), out, at),
-        Call::Turn => after_edit(sheet.turn(), out, at),
-        Call::Mirror => after_edit(sheet.mirror(), out, at),
         Call::Back => after_edit(sheet.back(), out, at),
         Call::ListPoints => answer_list(sheet, out, at),
         Call::Fit { size } => answer_fit(sheet, size, out, at),
         Call::Contents => answer_contents(sheet, calls::contents_part(b), out, at),
+        Call::Orient { number } => after_edit(sheet.orient(number), out, at),
     }
 }
 

@@ -1,6 +1,9 @@
 pub mod Buffer
 pub mod Listed
 pub mod Most
+pub mod OrientationNumbers
+pub mod Oriented
 pub mod Present
+pub mod Product
 pub mod Usable
 pub mod Words

@@ -1,4 +1,4 @@
--- A usable sheet's counts, and the refusals that cut, turn and mirror share, by the tests of the code. Assumes nothing.
+-- A usable sheet's counts, and the refusals that cut and orient share, by the tests of the code. Assumes nothing.
 use Prim.Native.Nat.{ℕ, _<_, _≤_}
 use mathlib.Core.Bool.{Bool, true, false, not}
 use mathlib.Core.List.{List}

@@ -2,15 +2,18 @@
 -- The idea: what getD reads of a list after sets, below the stored part and in it. Assumes nothing.
 use Prim.Native.Nat.{ℕ, zero, suc, _+_, _*_, _<_, _≤_}
 use mathlib.Core.List.{List, [], _∷_}
-use mathlib.Core.Path.{_≡_, refl, _∙_}
+use mathlib.Core.Logic.{inl}
+use mathlib.Core.Path.{_≡_, refl, ap, _∙_}
 use lib.ListN.{getD, length, set, length-set}
 use lib.Seq.{sets, getD-set-same, getD-set-other}
 use native.Mathlib.Omega.{arith}
 use native.Mathlib.Nat.{add-zero}
 use native.Mathlib.Numerals.{add-one, add-two, add-three, add-four}
 use Rattle.sheet.specs.declared.edits.Edit.{Edit}
-use Rattle.sheet.specs.declared.edits.Edit.the-variants.{Turn, Mirror, Cut}
-use Rattle.sheet.specs.Place.{wordsOf, editOf, editAt}
+use Rattle.sheet.specs.declared.edits.Edit.the-variants.{Orient, Cut}
+use Rattle.sheet.specs.Orientation.{orientationNumber}
+use Rattle.sheet.specs.Place.{wordsOf, orientOr, editOf, editAt}
+use Rattle.sheet.proofs.OrientationNumbers.{number-stands-for, others-outside}
 
 getD-sets-below : (vs l : List ℕ) (k j : ℕ) → j < k → getD (sets l k vs) j 0 ≡ getD l j 0
 getD-sets-below [] l k j h = refl
@@ -55,9 +58,9 @@ five k l t w h ws n g =
 
 -- the stored one
 pub stored-last : (e : Edit) (ws : List ℕ) (n : ℕ) → n * 5 + 5 ≤ length ws → editAt (sets ws (n * 5) (wordsOf e)) n ≡ e
-stored-last Turn ws n g = five 0 0 0 0 0 ws n g
-stored-last Mirror ws n g = five 1 0 0 0 0 ws n g
-stored-last (Cut l t w h) ws n g = five 2 l t w h ws n g
+stored-last (Orient o) ws n g =
+    five (orientationNumber o) 0 0 0 0 ws n g ∙ ap (orientOr (Cut 0 0 0 0)) (number-stands-for o)
+stored-last (Cut l t w h) ws n g = five 0 l t w h ws n g ∙ ap (orientOr (Cut l t w h)) (others-outside 0 (inl (omega arith)))
 
 -- the code's five stores
 abbrev pub fiveStores : List ℕ → ℕ → List ℕ → List ℕ
@@ -68,6 +71,5 @@ fiveStores l k vs =
     (getD vs 4 0)
 
 pub five-stores : (e : Edit) (vs l : List ℕ) (k : ℕ) → vs ≡ wordsOf e → fiveStores l k vs ≡ sets l k (wordsOf e)
-five-stores Turn vs l k g = rw (g, add-one k, add-two k, add-three k, add-four k)
-five-stores Mirror vs l k g = rw (g, add-one k, add-two k, add-three k, add-four k)
+five-stores (Orient o) vs l k g = rw (g, add-one k, add-two k, add-three k, add-four k)
 five-stores (Cut a b c d) vs l k g = rw (g, add-one k, add-two k, add-three k, add-four k)

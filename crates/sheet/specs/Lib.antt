@@ -1,3 +1,5 @@
+pub mod Orientation
+pub mod OrientationLaws
 pub mod Place
 pub mod Answer
 pub mod Listing

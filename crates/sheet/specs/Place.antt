@@ -1,31 +1,19 @@
 -- 01, "Sheet": one point under edits.
 use Prim.Native.Nat.{ℕ, zero, suc, _+_, _-_, _*_}
-use mathlib.Core.Bool.{Bool, true, _&&_, not, cond}
+use mathlib.Core.Bool.{Bool, true, _&&_, not}
 use mathlib.Core.List.{List, [], _∷_}
 use lib.Dec.{leb, eqb}
 use lib.ListN.{getD}
 use Rattle.reading.specs.declared.geometry.Size.{Size}
-use Rattle.reading.specs.declared.geometry.Point.{Point}
 use Rattle.placing.specs.declared.focus.FocusPoint.{FocusPoint}
-use Rattle.placing.specs.Fit.{pointFits, by, swapped}
+use Rattle.placing.specs.Fit.{pointFits, by}
+use Rattle.reading.specs.Outcome.{Outcome, refused, accepted}
 use Rattle.sheet.specs.declared.edits.Edit.{Edit}
-use Rattle.sheet.specs.declared.edits.Edit.the-variants.{Turn, Mirror, Cut}
+use Rattle.sheet.specs.declared.edits.Edit.the-variants.{Orient, Cut}
 use Rattle.sheet.specs.declared.edits.Carried.{Carried}
-
-abbrev pub point : ℕ → ℕ → Point
-point x y = record { x = x; y = y }
-
--- a point with another center and another size: "number and in-focus unchanged"
-abbrev pub movedTo : FocusPoint → Point → Size → FocusPoint
-movedTo p c a = record { number = p .number; center = c; size = a; «in_focus» = p .«in_focus» }
-
--- "In a frame w by h, .. turned clockwise: (x, y) goes to (h − y, x), frame and areas swap sides."
-abbrev pub turnedPoint : Size → FocusPoint → FocusPoint
-turnedPoint f p = movedTo p (point (f .height - p .center .y) (p .center .x)) (swapped (p .size))
-
--- "Mirror: (w − x, y)."
-abbrev pub mirroredPoint : Size → FocusPoint → FocusPoint
-mirroredPoint f p = movedTo p (point (f .width - p .center .x) (p .center .y)) (p .size)
+use Rattle.sheet.specs.declared.orientation.Framed.{Framed}
+use Rattle.sheet.specs.declared.orientation.Orientation.{Orientation}
+use Rattle.sheet.specs.Orientation.{orientationNumber, orientationOf, point, movedTo, framed, orientedBy}
 
 -- "Cut left, top, width, height subtracts (left, top)": a coordinate that would be below 0 is 0 here, and staysOn tells it
 abbrev pub shiftedPoint : ℕ → ℕ → FocusPoint → FocusPoint
@@ -45,16 +33,13 @@ cutPoint l t w h q =
       frame = by w h;
     }
 
+-- a point that was carried, with another place and another frame
+abbrev pub carriedTo : Carried → Framed → Carried
+carriedTo q r = record { listed = q .listed; point = r .point; frame = r .frame }
+
 -- a point and its frame, moved by one edit
 unfoldable pub moved : Edit → Carried → Carried
-moved Turn q =
-    record {
-      listed = q .listed;
-      point = turnedPoint (q .frame) (q .point);
-      frame = swapped (q .frame);
-    }
-moved Mirror q =
-    record { listed = q .listed; point = mirroredPoint (q .frame) (q .point); frame = q .frame }
+moved (Orient o) q = carriedTo q (orientedBy o (framed (q .frame) (q .point)))
 moved (Cut l t w h) q = cutPoint l t w h q
 
 -- a cut that neither "has a zero side" nor "passes the present frame": the sums are exact
@@ -62,15 +47,18 @@ unfoldable pub isGoodCut : ℕ → ℕ → ℕ → ℕ → Size → Bool
 isGoodCut l t w h f =
     not (eqb w 0) && (not (eqb h 0) && (leb (l + w) (f .width) && leb (t + h) (f .height)))
 
--- an edit in five words: its kind, 0 for a turn, 1 for a mirror, 2 for a cut, and a cut's numbers
+-- an edit in five words: its kind, which is an orientation's number or 0 for a cut, and a cut's numbers
 abbrev pub wordsOf : Edit → List ℕ
-wordsOf Turn = 0 ∷ 0 ∷ 0 ∷ 0 ∷ 0 ∷ []
-wordsOf Mirror = 1 ∷ 0 ∷ 0 ∷ 0 ∷ 0 ∷ []
-wordsOf (Cut l t w h) = 2 ∷ l ∷ t ∷ w ∷ h ∷ []
+wordsOf (Orient o) = orientationNumber o ∷ 0 ∷ 0 ∷ 0 ∷ 0 ∷ []
+wordsOf (Cut l t w h) = 0 ∷ l ∷ t ∷ w ∷ h ∷ []
 
--- the edit that has five words: any kind but 0 and 1 is a cut
+-- the edit that has five words: any kind that is no orientation's number is a cut
+abbrev pub orientOr : Edit → Outcome Orientation → Edit
+orientOr e (refused n) = e
+orientOr e (accepted o) = Orient o
+
 abbrev pub editOf : ℕ → ℕ → ℕ → ℕ → ℕ → Edit
-editOf k l t w h = cond (eqb k 0) Turn (cond (eqb k 1) Mirror (Cut l t w h))
+editOf k l t w h = orientOr (Cut l t w h) (orientationOf k)
 
 -- the edit at an index of a row of words
 unfoldable pub editAt : List ℕ → ℕ → Edit

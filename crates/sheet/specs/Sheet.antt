@@ -1,4 +1,4 @@
--- 01, "Sheet": what load, cut, turn, mirror and back answer and leave, for every sheet.
+-- 01, "Sheet": what load, cut, 02's orientation and back answer and leave, for every sheet.
 use Prim.Native.Nat.{ℕ, _+_, _-_, _*_}
 use mathlib.Core.Bool.{Bool, true, false, _&&_, cond}
 use mathlib.Core.List.{List, []}
@@ -12,20 +12,22 @@ use Rattle.placing.specs.declared.load.FocusOrigin.the-variants.{Recorded}
 use Rattle.placing.specs.Load.{Focus, noPoint}
 use Rattle.placing.specs.Laid.{places, loadMeans}
 use Rattle.sheet.specs.declared.edits.Edit.{Edit}
-use Rattle.sheet.specs.declared.edits.Edit.the-variants.{Turn, Mirror, Cut}
+use Rattle.sheet.specs.declared.edits.Edit.the-variants.{Orient, Cut}
 use Rattle.sheet.specs.declared.edits.Carried.{Carried}
+use Rattle.sheet.specs.declared.orientation.Orientation.{Orientation}
 use Rattle.sheet.specs.declared.Sheet.{Sheet}
 use Rattle.sheet.specs.declared.Edited.{Edited}
 use Rattle.sheet.specs.declared.Loaded.{Loaded}
 use Rattle.placing.specs.Fit.{by}
 use Rattle.sheet.specs.Answer.{editMeans}
+use Rattle.sheet.specs.Orientation.{orientationOf}
 use Rattle.sheet.specs.Place.{wordsOf, moved, placed, isGoodCut}
 
 -- how a call ends that gives nothing but a sheet. Accepted, it leaves this one
 abbrev pub leaves : Sheet → Outcome (List ℕ) × Sheet
 leaves s = (accepted [], s)
 
--- refused by one of 01's numbers: "sheet kept"
+-- refused by one of the documents' numbers: "sheet kept"
 abbrev pub keptBy : ℕ → Sheet → Outcome (List ℕ) × Sheet
 keptBy n s = (refused n, s)
 
@@ -100,21 +102,21 @@ withEdits s ws n =
       standing = n;
     }
 
--- "An accepted cut, turn or mirror joins the row's end"
+-- "An accepted cut, turn or mirror joins the row's end", an orientation where they were two: "Each is a single edit."
 unfoldable pub addEdit : Sheet → Edit → Sheet
 addEdit s e = withEdits s (sets (s .edits) (s .standing * 5) (wordsOf e)) (s .standing + 1)
 
--- what cut, turn and mirror test first: 7 "sheet is empty", 8 "64 edits stand"
+-- what cut and orientation test first: 7 "sheet is empty", 8 "64 edits stand"
 unfoldable pub ifOpen : Sheet → Outcome (List ℕ) × Sheet → Outcome (List ℕ) × Sheet
 ifOpen s r = cond (usable s) (cond (ltb (s .standing) 64) r (keptBy 8 s)) (keptBy 7 s)
 
--- "a turn takes a sheet and gives back the sheet turned clockwise"
-unfoldable pub turnSheet : Sheet → Outcome (List ℕ) × Sheet
-turnSheet s = ifOpen s (leaves (addEdit s Turn))
+-- "Turn and mirror merge into one call with that number": 15 "number outside 1 to 8, after 8"
+abbrev pub orientTo : Sheet → Outcome Orientation → Outcome (List ℕ) × Sheet
+orientTo s (refused n) = keptBy n s
+orientTo s (accepted o) = leaves (addEdit s (Orient o))
 
--- "Mirror"
-unfoldable pub mirrorSheet : Sheet → Outcome (List ℕ) × Sheet
-mirrorSheet s = ifOpen s (leaves (addEdit s Mirror))
+unfoldable pub orientSheet : Sheet → ℕ → Outcome (List ℕ) × Sheet
+orientSheet s number = ifOpen s (orientTo s (orientationOf number))
 
 -- 10, "cut would drop the primary": whether the primary is listed after one more edit
 unfoldable pub keepsPrimary : Sheet → Edit → Bool

@@ -1,19 +1,21 @@
 // An edit, and one point under edits.
+use crate::orientation::OptionalOrientation;
+use crate::orientation::Orientation;
+use crate::subtraction::less;
 use placing::focus::FocusPoint;
 use reading::geometry::Point;
 use reading::geometry::Size;
 ghost use mathlib.Core.Path.{_≡_};
 ghost use mathlib.Core.Bool.{_&&_};
-ghost use Prim.Native.Nat.{_+_, _-_, _<_, _≤_, min};
+ghost use Prim.Native.Nat.{_+_, _<_, _≤_, min};
 ghost use lib.Dec.{leb};
 ghost use Rattle.reading.specs.Outcome.{numberOf};
 ghost use Rattle.sheet.specs.Answer.{editMeans};
-ghost use Rattle.sheet.specs.Place.{turnedPoint, mirroredPoint, shiftedPoint, staysOn, cutPoint, moved, wordsOf, editAt, placed, isGoodCut};
+ghost use Rattle.sheet.specs.Place.{shiftedPoint, staysOn, cutPoint, moved, wordsOf, editAt, placed, isGoodCut};
 
-// A clockwise quarter rotation, an exchange of left and right, or a cut to a rectangle.
+// One of the eight orientations, or a cut to a rectangle.
 pub enum Edit {
-    Turn,
-    Mirror,
+    Orient(Orientation),
     Cut {
         left: u32,
         top: u32,
@@ -22,7 +24,7 @@ pub enum Edit {
     },
 }
 
-// How cut, turn, mirror and back end: accepted, or refused by 01's numbers 7 to 11, in this order.
+// How cut, orient and back end: accepted, or refused by 01's numbers 7 to 11 or 02's 15, in this order.
 pub enum EditAnswer {
     Accepted,
     Empty,
@@ -30,6 +32,7 @@ pub enum EditAnswer {
     BadCut,
     DropsPrimary,
     NothingStands,
+    NoOrientation,
 }
 
 // A point after some edits: whether no cut dropped it, where it is, and the frame that it is in.
@@ -39,7 +42,7 @@ pub struct Carried {
     pub frame: Size,
 }
 
-// 01's number for how cut, turn, mirror and back end, 0 for accepted.
+// The documents' number for how cut, orient and back end, 0 for accepted.
 pub fn edit_number(answer: EditAnswer) -> u32
     ensures { λ r. ⌜ r ≡ numberOf (editMeans answer) ⌝ }
 {
@@ -50,55 +53,7 @@ pub fn edit_number(answer: EditAnswer) -> u32
         EditAnswer::BadCut => 9,
         EditAnswer::DropsPrimary => 10,
         EditAnswer::NothingStands => 11,
-    }
-}
-
-// `a - b`, and 0 where that would be below 0.
-fn less(a: u32, b: u32) -> u32
-    ensures { λ r. ⌜ r ≡ a - b ⌝ }
-{
-    if b <= a { a - b } else { 0 }
-}
-
-// A point of the frame, after a clockwise quarter rotation.
-fn turned_point(frame: Size, point: FocusPoint) -> FocusPoint
-    ensures { λ r. ⌜ r ≡ turnedPoint frame point ⌝ }
-{
-    let from = point.center;
-    let area = point.size;
-    let in_focus = point.in_focus;
-    let center = Point {
-        x: less(frame.height, from.y),
-        y: from.x,
-    };
-    let size = Size {
-        width: area.height,
-        height: area.width,
-    };
-    FocusPoint {
-        number: point.number,
-        center,
-        size,
-        in_focus,
-    }
-}
-
-// A point of the frame, with left and right exchanged.
-fn mirrored_point(frame: Size, point: FocusPoint) -> FocusPoint
-    ensures { λ r. ⌜ r ≡ mirroredPoint frame point ⌝ }
-{
-    let from = point.center;
-    let size = point.size;
-    let in_focus = point.in_focus;
-    let center = Point {
-        x: less(frame.width, from.x),
-        y: from.y,
-    };
-    FocusPoint {
-        number: point.number,
-        center,
-        size,
-        in_focus,
+        EditAnswer::NoOrientation => 15,
     }
 }
 
@@ -137,7 +92,7 @@ fn stays_on(left: u32, top: u32, width: u32, height: u32, point: FocusPoint) -> 
 }
 
 // A point after a cut: a point that was dropped stays so.
-fn cut_point(left: u32, top: u32, width: u32, height: u32, place: Carried) -> Carried
+pub fn cut_point(left: u32, top: u32, width: u32, height: u32, place: Carried) -> Carried
     ensures { λ r. ⌜ r ≡ cutPoint left top width height place ⌝ }
 {
     let from = place.point;
@@ -152,29 +107,20 @@ fn cut_point(left: u32, top: u32, width: u32, height: u32, place: Carried) -> Ca
 }
 
 // A point and its frame, moved by one edit.
-pub fn move_by(edit: Edit, place: Carried) -> Carried
+fn move_by(edit: Edit, place: Carried) -> Carried
     ensures { λ r. ⌜ r ≡ moved edit place ⌝ }
 {
     let from = place.point;
     let frame = place.frame;
     match edit {
-        Edit::Turn => {
-            let point = turned_point(frame, from);
+        Edit::Orient(orientation) => {
+            let oriented = crate::orientation::oriented(orientation, frame, from);
+            let point = oriented.point;
+            let after = oriented.frame;
             Carried {
                 listed: place.listed,
                 point,
-                frame: Size {
-                    width: frame.height,
-                    height: frame.width,
-                },
-            }
-        }
-        Edit::Mirror => {
-            let point = mirrored_point(frame, from);
-            Carried {
-                listed: place.listed,
-                point,
-                frame,
+                frame: after,
             }
         }
         Edit::Cut {
@@ -211,14 +157,16 @@ pub fn words_of(edit: Edit) -> [u32; 5]
     ensures { λ r. ⌜ r ≡ wordsOf edit ⌝ }
 {
     match edit {
-        Edit::Turn => [0, 0, 0, 0, 0],
-        Edit::Mirror => [1, 0, 0, 0, 0],
+        Edit::Orient(orientation) => {
+            let number = crate::orientation::orientation_number(orientation);
+            [number, 0, 0, 0, 0]
+        }
         Edit::Cut {
             left,
             top,
             width,
             height,
-        } => [2, left, top, width, height],
+        } => [0, left, top, width, height],
     }
 }
 
@@ -229,21 +177,18 @@ fn edit_at(words: &[u32; 320], i: usize) -> Edit
 {
     let at = i * 5;
     let kind = words[at];
-    if kind == 0 {
-        return Edit::Turn;
-    }
-    if kind == 1 {
-        return Edit::Mirror;
-    }
     let left = words[at + 1];
     let top = words[at + 2];
     let width = words[at + 3];
     let height = words[at + 4];
-    Edit::Cut {
-        left,
-        top,
-        width,
-        height,
+    match crate::orientation::orientation_of(kind) {
+        OptionalOrientation::Given(orientation) => Edit::Orient(orientation),
+        OptionalOrientation::Outside => Edit::Cut {
+            left,
+            top,
+            width,
+            height,
+        },
     }
 }
 

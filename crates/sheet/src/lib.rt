@@ -1,9 +1,10 @@
 // The sheet: the points of one load, under edits that stand until they are taken back. A public method takes the sheet by value and
-// asks nothing of its caller; load, cut, turn, mirror and back give back the sheet that they leave, list and fit do not change it. A
-// refused call changes nothing.
+// asks nothing of its caller; load, cut, orient and back give back the sheet that they leave, list and fit do not change it. A refused
+// call changes nothing.
 use crate::edits::Carried;
 use crate::edits::Edit;
 use crate::edits::EditAnswer;
+use crate::orientation::OptionalOrientation;
 use placing::focus::FocusPoint;
 use placing::load::FocusAnswer;
 use placing::load::FocusOrigin;
@@ -14,11 +15,13 @@ ghost use mathlib.Core.Path.{_≡_};
 ghost use Prim.Native.Nat.{_<_, _≤_};
 ghost use Rattle.placing.specs.Focus.{focusOf};
 ghost use Rattle.sheet.specs.Answer.{editMeans};
-ghost use Rattle.sheet.specs.Sheet.{leaves, editedMeans, loadedMeans, freshSheet, loadSheet, usable, placedAt, addEdit, ifOpen, turnSheet, mirrorSheet, cutSheet, backSheet};
+ghost use Rattle.sheet.specs.Sheet.{editedMeans, loadedMeans, freshSheet, loadSheet, usable, placedAt, addEdit, orientSheet, cutSheet, backSheet};
 
 pub mod edits; // an edit, and the place of one point after some edits
 pub mod list; // the listing of the points where they are now, and in another frame
 pub mod listing; // six numbers a point in a lent buffer, and what is said beside them
+pub mod orientation; // one of the eight orientations, and a point under it
+mod subtraction; // subtraction that stops at 0
 
 // How many edits may stand.
 const MOST_EDITS: usize = 64;
@@ -37,7 +40,7 @@ pub struct Sheet {
     pub standing: usize,
 }
 
-// A sheet after cut, turn, mirror or back.
+// A sheet after cut, orient or back.
 pub struct Edited {
     pub answer: EditAnswer,
     pub sheet: Sheet,
@@ -170,9 +173,9 @@ impl Sheet {
         }
     }
 
-    // One more edit, where the sheet is not empty and has room for it.
-    fn add(self, edit: Edit) -> Edited
-        ensures { λ r. ⌜ editedMeans r ≡ ifOpen self (leaves (addEdit self edit)) ⌝ }
+    // The sheet under the orientation of a number.
+    pub fn orient(self, number: u32) -> Edited
+        ensures { λ r. ⌜ editedMeans r ≡ orientSheet self number ⌝ }
     {
         if !self.is_usable() {
             return self.ends(EditAnswer::Empty);
@@ -180,22 +183,13 @@ impl Sheet {
         if MOST_EDITS <= self.standing {
             return self.ends(EditAnswer::Full);
         }
-        let sheet = self.with_edit(edit);
-        sheet.ends(EditAnswer::Accepted)
-    }
-
-    // The sheet turned clockwise, by a quarter rotation.
-    pub fn turn(self) -> Edited
-        ensures { λ r. ⌜ editedMeans r ≡ turnSheet self ⌝ }
-    {
-        self.add(Edit::Turn)
-    }
-
-    // The sheet with left and right exchanged.
-    pub fn mirror(self) -> Edited
-        ensures { λ r. ⌜ editedMeans r ≡ mirrorSheet self ⌝ }
-    {
-        self.add(Edit::Mirror)
+        match crate::orientation::orientation_of(number) {
+            OptionalOrientation::Given(orientation) => {
+                let sheet = self.with_edit(Edit::Orient(orientation));
+                sheet.ends(EditAnswer::Accepted)
+            }
+            OptionalOrientation::Outside => self.ends(EditAnswer::NoOrientation),
+        }
     }
 
     // The sheet cut to a rectangle of the present frame.
@@ -214,17 +208,16 @@ impl Sheet {
         if !crate::edits::is_good_cut(left, top, width, height, frame) {
             return self.ends(EditAnswer::BadCut);
         }
-        let edit = Edit::Cut {
+        let after = crate::edits::cut_point(left, top, width, height, place);
+        if !after.listed {
+            return self.ends(EditAnswer::DropsPrimary);
+        }
+        let sheet = self.with_edit(Edit::Cut {
             left,
             top,
             width,
             height,
-        };
-        let after = crate::edits::move_by(edit, place);
-        if !after.listed {
-            return self.ends(EditAnswer::DropsPrimary);
-        }
-        let sheet = self.with_edit(edit);
+        });
         sheet.ends(EditAnswer::Accepted)
     }
 

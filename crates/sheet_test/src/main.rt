@@ -1,8 +1,9 @@
 // Runs a list of calls on one sheet and prints what each answers and leaves in its buffer. A call is 512 bytes: its code in the
 // first, then what it takes, then zeros. 1 load: a byte of flags (1 raw size, 2 picture size), the two sizes as four 32-bit
-// numbers, the model's length in a byte, the block's length in two, the model, the block. 2 cut: left, top, width, height. 3 turn.
-// 4 mirror. 5 back. 6 list: the buffer's places in a byte. 7 fit: width, height, and the buffer's places in a byte. Numbers are
-// big-endian. Place i of a buffer holds i + 1 before a call. No contract can say what is printed: that is held to `stdout`.
+// numbers, the model's length in a byte, the block's length in two, the model, the block. 2 cut: left, top, width, height. 5 back.
+// 6 list: the buffer's places in a byte. 7 fit: width, height, and the buffer's places in a byte. 9 orient: the number in a byte.
+// Numbers are big-endian. Place i of a buffer holds i + 1 before a call. No contract can say what is printed: that is held to
+// `stdout`.
 use libc::STDIN_FILENO;
 use libc::STDOUT_FILENO;
 use numbers::io::ByteOrder;
@@ -131,6 +132,11 @@ fn cut(sheet: Sheet, call: &[u8]) -> Sheet {
     after_edit(sheet.cut(left, top, width, height))
 }
 
+fn orient(sheet: Sheet, call: &[u8]) -> Sheet {
+    let number = numbers::io::u8_at(call, 1) as u32;
+    after_edit(sheet.orient(number))
+}
+
 fn list_into(sheet: Sheet, out: &mut [u32]) {
     print_list(sheet.list(out));
     print_buffer(out);
@@ -173,9 +179,8 @@ fn answer(sheet: Sheet, call: &[u8]) -> Sheet {
     match code {
         1 => load(sheet, call),
         2 => cut(sheet, call),
-        3 => after_edit(sheet.turn()),
-        4 => after_edit(sheet.mirror()),
         5 => after_edit(sheet.back()),
+        9 => orient(sheet, call),
         _ => {
             show(sheet, call, code);
             sheet

@@ -82,8 +82,13 @@ pub fn with_all_points() -> Vec<u8> {
     record.resize(30, 0);
     let mut line = [vec![1], vec![0; 17], vec![10], b"NIKON D600MM\0*\0\0\0\x08\0\x01\0\xB7\0\x07\0\0\0\x1E\0\0\0\x16".to_vec()].concat();
     line.extend(record);
-    line.push(line.iter().fold(0u8, |sum, &byte| sum.wrapping_add(byte)).wrapping_neg());
-    let mut text: Vec<u8> = line.iter().flat_map(|byte| format!("{byte:02X}").into_bytes()).collect();
+    call_line(&line)
+}
+
+/// The call line of these bytes: with their check, in hexadecimal.
+pub fn call_line(bytes: &[u8]) -> Vec<u8> {
+    let check = bytes.iter().fold(0u8, |sum, &byte| sum.wrapping_sub(byte));
+    let mut text: Vec<u8> = bytes.iter().chain([&check]).flat_map(|byte| format!("{byte:02X}").into_bytes()).collect();
     text.push(b'\n');
     text
 }

@@ -1,10 +1,11 @@
-//! Times one load on both sides, a block's contents beside a plain loop, a listing behind edits, and the lines that focusdesk answers in a
+//! Times one load on both sides, a block's contents and a listing behind edits beside plain loops, and the lines that focusdesk answers in a
 //! second. Prints tables in Markdown.
 //! Usage: bench REPOSITORY, the folder that has crates/ and target/bin/focusdesk. With a KIND of loads behind it, which is named, recorded
 //! or refused, it times nothing: it answers those loads and prints how many calls that took, for tools/bench/count.
 
 mod blocks;
 mod contents;
+mod orientations;
 
 use std::env;
 use std::fs::{self, File};
@@ -14,7 +15,7 @@ use std::path::Path;
 use std::process::{Command, Stdio};
 use std::time::{Duration, Instant};
 
-use blocks::{Load, grown, stored, with_all_points};
+use blocks::{Load, call_line, grown, stored, with_all_points};
 use oracle::{Answer, FocusOrigin};
 
 const ROUNDS: usize = 7;
@@ -101,14 +102,38 @@ fn program_time(program: &Path, script: &[u8]) -> Duration {
     time
 }
 
-fn listing_row(program: &Path, edits: usize) -> f64 {
+/// Microseconds for a listing by focusdesk behind orientations of these numbers.
+fn listing_time(program: &Path, numbers: &[u8]) -> f64 {
     const LISTS: usize = 20_000;
-    let mut script = with_all_points();
-    script.extend(b"03FD\n".repeat(edits));
+    let script = oriented_script(numbers);
     let without = program_time(program, &script);
-    script.extend(b"06FA\n".repeat(LISTS));
-    let listing = (program_time(program, &script) - without).as_secs_f64() * 1e6 / LISTS as f64;
-    println!("| {edits} | {listing:.1} |");
+    let lists = [script, LIST.repeat(LISTS)].concat();
+    (program_time(program, &lists) - without).as_secs_f64() * 1e6 / LISTS as f64
+}
+
+const LIST: &[u8] = b"06FA\n";
+
+/// A load of all 39 points, and an orientation of each number.
+fn oriented_script(numbers: &[u8]) -> Vec<u8> {
+    let lines = numbers.iter().flat_map(|&number| call_line(&[9, number]));
+    with_all_points().into_iter().chain(lines).collect()
+}
+
+/// The points that the library lists behind orientations of these numbers.
+fn listed_behind(numbers: &[u8]) -> Vec<orientations::Carried> {
+    orientations::listed(&focuspoints::script(&[&oriented_script(numbers), LIST].concat()))
+}
+
+/// A listing behind orientations, and what it takes more than `none`, one behind no edit. Both sides must carry the points to the same
+/// places before their times mean anything.
+fn listing_row(program: &Path, none: f64, name: &str, numbers: &[u8]) -> f64 {
+    let points = listed_behind(&[]);
+    assert_eq!(orientations::plain(&points, numbers), listed_behind(numbers), "{name}");
+    let plain = nanoseconds_each(&[points], |points| {
+        black_box(orientations::plain(black_box(points), black_box(numbers)));
+    }) / 1e3;
+    let listing = listing_time(program, numbers);
+    println!("| {name} | {listing:.1} | {:.1} | {plain:.1} | {:.1} |", listing - none, (listing - none) / plain);
     listing
 }
 
@@ -151,11 +176,15 @@ fn main() {
     contents_row("the same with the entries the other way round", &reversed);
     contents_row("65,535 entries with none of the four tags", &[contents::longest()]);
     println!();
-    println!("| edits that stand | a listing of 39 points by focusdesk, µs |");
-    println!("|---|---|");
-    let times: Vec<f64> = [0, 32, 64].into_iter().map(|edits| listing_row(&program, edits)).collect();
+    println!("| edits that stand | a listing of 39 points by focusdesk, µs | more than behind none, µs | a plain loop in Rust, µs | times as long |");
+    println!("|---|---|---|---|---|");
+    let none = listing_time(&program, &[]);
+    println!("| none | {none:.1} | | | |");
+    let half = listing_row(&program, none, "32 turns, orientation 6", &[6; 32]);
+    let full = listing_row(&program, none, "64 turns, orientation 6", &[6; 64]);
+    listing_row(&program, none, "64 of the eight orientations, one after the other", &[1, 2, 3, 4, 5, 6, 7, 8].repeat(8));
     println!();
-    println!("Behind 64 edits a listing takes {:.2} times as long as behind 32.", times[2] / times[1]);
+    println!("Behind 64 turns a listing takes {:.2} times as long as behind 32.", full / half);
     println!();
     let lines = fs::read(root.join("tools/oracle/stored/lines.txt")).unwrap().repeat(20);
     let count = lines.iter().filter(|&&c| c == b'\n').count();

@@ -18,17 +18,14 @@ of-length-requires c κs = search needs
 of-length-requires-2 : tie.Need-of-length-requires-2
 of-length-requires-2 c κs = search needs
 
-of-length-requires-3 : tie.Need-of-length-requires-3
-of-length-requires-3 c κs = search needs
-
-of-length-requires-4 : tie.Need-of-length-requires-4
-of-length-requires-4 c κs = search needs
-
 fit-call-requires : tie.Need-fit-call-requires
 fit-call-requires c κs = search needs
 
 contents-call-requires : tie.Need-contents-call-requires
 contents-call-requires c κs = search needs
+
+orient-call-requires : tie.Need-orient-call-requires
+orient-call-requires c κs = search needs
 
 returns : tie.Need-returns
 unfolding byCode
@@ -48,24 +45,20 @@ returns-4 c = (c .of-length2 .ensures) ∙ rw ((c .before .match .keys4))
 
 returns-5 : tie.Need-returns-5
 unfolding byCode
-returns-5 c = (c .of-length3 .ensures) ∙ rw ((c .before .match .keys5))
+returns-5 c = (c .fit-call .ensures) ∙ rw ((c .before .match .keys5))
 
 returns-6 : tie.Need-returns-6
 unfolding byCode
-returns-6 c = (c .of-length4 .ensures) ∙ rw ((c .before .match .keys6))
+returns-6 c = (c .contents-call .ensures) ∙ rw ((c .before .match .keys6))
 
 returns-7 : tie.Need-returns-7
 unfolding byCode
-returns-7 c = (c .fit-call .ensures) ∙ rw ((c .before .match .keys7))
+returns-7 c = (c .orient-call .ensures) ∙ rw ((c .before .match .keys7))
 
 returns-8 : tie.Need-returns-8
 unfolding byCode
-returns-8 c = (c .contents-call .ensures) ∙ rw ((c .before .match .keys8))
-
-returns-9 : tie.Need-returns-9
-unfolding byCode
-returns-9 c = let r = (c .match .rest) in
-    rw (ne-eqb _ _ (r .0 .0 .0 .0 .0 .0 .0 .1), ne-eqb _ _ (r .0 .0 .0 .0 .0 .0 .1), ne-eqb _ _ (r .0 .0 .0 .0 .0 .1), ne-eqb _ _ (r .0 .0 .0 .0 .1), ne-eqb _ _ (r .0 .0 .0 .1), ne-eqb _ _ (r .0 .0 .1), ne-eqb _ _ (r .0 .1), ne-eqb _ _ (r .1))
+returns-8 c = let r = (c .match .rest) in
+    rw (ne-eqb _ _ (r .0 .0 .0 .0 .0 .0 .1), ne-eqb _ _ (r .0 .0 .0 .0 .0 .1), ne-eqb _ _ (r .0 .0 .0 .0 .1), ne-eqb _ _ (r .0 .0 .0 .1), ne-eqb _ _ (r .0 .0 .1), ne-eqb _ _ (r .0 .1), ne-eqb _ _ (r .1))
 
 pub by-code-spec : {M : Type 1} → statement M
 by-code-spec =
@@ -75,10 +68,9 @@ by-code-spec =
     cut-call-requires
     of-length-requires
     of-length-requires-2
-    of-length-requires-3
-    of-length-requires-4
     fit-call-requires
     contents-call-requires
+    orient-call-requires
     returns
     returns-2
     returns-3
@@ -86,5 +78,4 @@ by-code-spec =
     returns-5
     returns-6
     returns-7
-    returns-8
-    returns-9)
+    returns-8)

@@ -33,32 +33,14 @@ after-edit-requires c κs = search needs
 enum-told-2 : tie.Need-enum-told-2
 enum-told-2 c = search needs
 
-turn-requires : tie.Need-turn-requires
-turn-requires c κs = search needs
+back-requires : tie.Need-back-requires
+back-requires c κs = search needs
 
 after-edit-requires-2 : tie.Need-after-edit-requires-2
 after-edit-requires-2 c κs = search needs
 
 enum-told-3 : tie.Need-enum-told-3
 enum-told-3 c = search needs
-
-mirror-requires : tie.Need-mirror-requires
-mirror-requires c κs = search needs
-
-after-edit-requires-3 : tie.Need-after-edit-requires-3
-after-edit-requires-3 c κs = search needs
-
-enum-told-4 : tie.Need-enum-told-4
-enum-told-4 c = search needs
-
-back-requires : tie.Need-back-requires
-back-requires c κs = search needs
-
-after-edit-requires-4 : tie.Need-after-edit-requires-4
-after-edit-requires-4 c κs = search needs
-
-enum-told-5 : tie.Need-enum-told-5
-enum-told-5 c = search needs
 
 answer-list-requires : tie.Need-answer-list-requires
 answer-list-requires c κs = search needs
@@ -69,14 +51,23 @@ enum-known-size c = search needs
 answer-fit-requires : tie.Need-answer-fit-requires
 answer-fit-requires c κs = search needs
 
-enum-told-6 : tie.Need-enum-told-6
-enum-told-6 c = search needs
+enum-told-4 : tie.Need-enum-told-4
+enum-told-4 c = search needs
 
 contents-part-requires : tie.Need-contents-part-requires
 contents-part-requires c κs = search needs
 
 answer-contents-requires : tie.Need-answer-contents-requires
 answer-contents-requires c κs = search needs
+
+enum-known-number : tie.Need-enum-known-number
+enum-known-number c = search needs
+
+orient-requires : tie.Need-orient-requires
+orient-requires c κs = search needs
+
+after-edit-requires-3 : tie.Need-after-edit-requires-3
+after-edit-requires-3 c κs = search needs
 
 same-length : tie.Need-same-length
 same-length c = search needs
@@ -102,39 +93,32 @@ same-length-4 c = search needs
 
 returns-4 : tie.Need-returns-4
 unfolding sheetStep
-returns-4 c = texts.by-call _ _ _ _ (c .before .before .before .before .before .enum-told2 .given .1) (c .before .before .before .before .before .before .before .call-of .ensures) (texts.answered-edit _ _ (c .before .before .before .before .turn .result) (ap afterEdit (c .before .before .before .before .turn .ensures)) (c .before .before .after-edit2 .ensures))
+returns-4 c = texts.by-call _ _ _ _ (c .before .before .before .before .before .enum-told2 .given .1) (c .before .before .before .before .before .before .before .call-of .ensures) (texts.answered-edit _ _ (c .before .before .before .before .back .result) (ap afterEdit (c .before .before .before .before .back .ensures)) (c .before .before .after-edit2 .ensures))
 
 same-length-5 : tie.Need-same-length-5
 same-length-5 c = search needs
 
 returns-5 : tie.Need-returns-5
-unfolding sheetStep
-returns-5 c = texts.by-call _ _ _ _ (c .before .before .before .before .before .enum-told3 .given .1) (c .before .before .before .before .before .before .before .call-of .ensures) (texts.answered-edit _ _ (c .before .before .before .before .mirror .result) (ap afterEdit (c .before .before .before .before .mirror .ensures)) (c .before .before .after-edit3 .ensures))
+returns-5 c = texts.by-call _ _ _ _ (c .before .before .before .before .enum-told3 .given .1) (c .before .before .before .before .before .before .call-of .ensures) (c .before .before .answer-list .ensures)
 
 same-length-6 : tie.Need-same-length-6
 same-length-6 c = search needs
 
 returns-6 : tie.Need-returns-6
-unfolding sheetStep
-returns-6 c = texts.by-call _ _ _ _ (c .before .before .before .before .before .enum-told4 .given .1) (c .before .before .before .before .before .before .before .call-of .ensures) (texts.answered-edit _ _ (c .before .before .before .before .back .result) (ap afterEdit (c .before .before .before .before .back .ensures)) (c .before .before .after-edit4 .ensures))
+returns-6 c = texts.by-call _ _ _ _ (c .before .before .before .before .before .size .given .1) (c .before .before .before .before .before .before .before .call-of .ensures) (c .before .before .answer-fit .ensures)
 
 same-length-7 : tie.Need-same-length-7
 same-length-7 c = search needs
 
 returns-7 : tie.Need-returns-7
-returns-7 c = texts.by-call _ _ _ _ (c .before .before .before .before .enum-told5 .given .1) (c .before .before .before .before .before .before .call-of .ensures) (c .before .before .answer-list .ensures)
+returns-7 c = texts.by-call _ _ _ _ (c .before .before .before .before .before .enum-told4 .given .1) (c .before .before .before .before .before .before .before .call-of .ensures) (rw (c .before .before .before .before .contents-part .ensures) at (c .before .before .answer-contents .ensures))
 
 same-length-8 : tie.Need-same-length-8
 same-length-8 c = search needs
 
 returns-8 : tie.Need-returns-8
-returns-8 c = texts.by-call _ _ _ _ (c .before .before .before .before .before .size .given .1) (c .before .before .before .before .before .before .before .call-of .ensures) (c .before .before .answer-fit .ensures)
-
-same-length-9 : tie.Need-same-length-9
-same-length-9 c = search needs
-
-returns-9 : tie.Need-returns-9
-returns-9 c = texts.by-call _ _ _ _ (c .before .before .before .before .before .enum-told6 .given .1) (c .before .before .before .before .before .before .before .call-of .ensures) (rw (c .before .before .before .before .contents-part .ensures) at (c .before .before .answer-contents .ensures))
+unfolding sheetStep
+returns-8 c = texts.by-call _ _ _ _ (c .before .before .before .before .before .before .number .given .1) (c .before .before .before .before .before .before .before .before .call-of .ensures) (texts.answered-edit _ _ (c .before .before .before .before .orient .result) (ap afterEdit (c .before .before .before .before .orient .ensures)) (c .before .before .after-edit3 .ensures))
 
 pub answer-bytes-spec : {M : Type 1} → statement M
 answer-bytes-spec =
@@ -149,21 +133,18 @@ answer-bytes-spec =
     cut-requires
     after-edit-requires
     enum-told-2
-    turn-requires
+    back-requires
     after-edit-requires-2
     enum-told-3
-    mirror-requires
-    after-edit-requires-3
-    enum-told-4
-    back-requires
-    after-edit-requires-4
-    enum-told-5
     answer-list-requires
     enum-known-size
     answer-fit-requires
-    enum-told-6
+    enum-told-4
     contents-part-requires
     answer-contents-requires
+    enum-known-number
+    orient-requires
+    after-edit-requires-3
     same-length
     returns
     same-length-2
@@ -179,6 +160,4 @@ answer-bytes-spec =
     same-length-7
     returns-7
     same-length-8
-    returns-8
-    same-length-9
-    returns-9)
+    returns-8)

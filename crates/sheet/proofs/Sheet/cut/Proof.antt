@@ -5,11 +5,10 @@ use Prim.Native.Nat.{ℕ, _<_}
 use native.Mathlib.Omega.{arith}
 use borrow.Author.Tests.{not-true, not-false}
 use Rattle.reading.specs.declared.geometry.Size.{Size}
-use Rattle.sheet.specs.declared.edits.Edit.{Edit}
 use Rattle.sheet.specs.declared.edits.Edit.the-variants.{Cut}
 use Rattle.sheet.specs.declared.edits.Carried.{Carried}
 use Rattle.sheet.specs.declared.Sheet.{Sheet}
-use Rattle.sheet.specs.Place.{moved, isGoodCut}
+use Rattle.sheet.specs.Place.{cutPoint, moved, isGoodCut}
 use Rattle.sheet.specs.Sheet.{leaves, keptBy, usable, placedAt, presentFrame, addEdit, keepsPrimary, cutSheet}
 use Rattle.sheet.proofs.Usable.{counts, when-empty, when-full, when-open}
 use borrow.Author.Needs.{needs}
@@ -21,9 +20,9 @@ module _ (s : Sheet) (q : Carried) (e : q ≡ placedAt s (s .primary)) where
   unfolding presentFrame
   frame-of = ap (λ (x : Carried). x .frame) e
 
-  listed-by : (d : Edit) (u : Carried) → u ≡ moved d q → u .listed ≡ keepsPrimary s d
-  unfolding keepsPrimary
-  listed-by d u g = ap (λ (x : Carried). x .listed) (g ∙ ap (moved d) e)
+  listed-by : (l t w h : ℕ) (u : Carried) → u ≡ cutPoint l t w h q → u .listed ≡ keepsPrimary s (Cut l t w h)
+  unfolding keepsPrimary moved
+  listed-by l t w h u g = ap (λ (x : Carried). x .listed) (g ∙ ap (cutPoint l t w h) e)
 
 module _ (s : Sheet) (l t w h : ℕ) (r : Bool) (e : r ≡ usable s) (n : not r ≡ false) (a : s .standing < 64)
     (f : Size) (ef : f ≡ presentFrame s) (p : Bool) (ep : p ≡ isGoodCut l t w h f) where
@@ -70,14 +69,14 @@ ends-requires-3 c κs = search needs
 returns-3 : tie.Need-returns-3
 returns-3 c = (c .ends3 .ensures) ∙ passes-frame _ _ _ _ _ _ (c .before .before .before .before .before .before .before .before .is-usable .ensures) (c .before .before .before .before .before .before .before .if1 .left) (c .before .before .before .before .before .if2 .left) _ (frame-of _ _ (c .before .before .before .before .place-at .ensures)) _ (c .before .before .is-good-cut .ensures) (c .before .if3 .taken)
 
-move-by-requires : tie.Need-move-by-requires
-move-by-requires c κs = search needs
+cut-point-requires : tie.Need-cut-point-requires
+cut-point-requires c κs = search needs
 
 ends-requires-4 : tie.Need-ends-requires-4
 ends-requires-4 c κs = search needs
 
 returns-4 : tie.Need-returns-4
-returns-4 c = (c .ends4 .ensures) ∙ drops _ _ _ _ _ _ (c .before .before .before .before .before .before .before .before .before .before .before .is-usable .ensures) (c .before .before .before .before .before .before .before .before .before .before .if1 .left) (c .before .before .before .before .before .before .before .before .if2 .left) _ (frame-of _ _ (c .before .before .before .before .before .before .before .place-at .ensures)) _ (c .before .before .before .before .before .is-good-cut .ensures) (c .before .before .before .before .if3 .left) _ (listed-by _ _ (c .before .before .before .before .before .before .before .place-at .ensures) _ _ (c .before .before .before .move-by .ensures)) (c .before .if4 .taken)
+returns-4 c = (c .ends4 .ensures) ∙ drops _ _ _ _ _ _ (c .before .before .before .before .before .before .before .before .before .before .before .is-usable .ensures) (c .before .before .before .before .before .before .before .before .before .before .if1 .left) (c .before .before .before .before .before .before .before .before .if2 .left) _ (frame-of _ _ (c .before .before .before .before .before .before .before .place-at .ensures)) _ (c .before .before .before .before .before .is-good-cut .ensures) (c .before .before .before .before .if3 .left) _ (listed-by _ _ (c .before .before .before .before .before .before .before .place-at .ensures) _ _ _ _ _ (c .before .before .before .cut-point .ensures)) (c .before .if4 .taken)
 
 with-edit-requires : tie.Need-with-edit-requires
 with-edit-requires c κs = search needs
@@ -86,7 +85,7 @@ ends-requires-5 : tie.Need-ends-requires-5
 ends-requires-5 c κs = search needs
 
 returns-5 : tie.Need-returns-5
-returns-5 c = (c .ends5 .ensures) ∙ done _ _ _ _ _ _ (c .before .before .before .before .before .before .before .before .before .before .before .before .is-usable .ensures) (c .before .before .before .before .before .before .before .before .before .before .before .if1 .left) (c .before .before .before .before .before .before .before .before .before .if2 .left) _ (frame-of _ _ (c .before .before .before .before .before .before .before .before .place-at .ensures)) _ (c .before .before .before .before .before .before .is-good-cut .ensures) (c .before .before .before .before .before .if3 .left) _ (listed-by _ _ (c .before .before .before .before .before .before .before .before .place-at .ensures) _ _ (c .before .before .before .before .move-by .ensures)) (c .before .before .if4 .left) _ (c .before .with-edit .ensures)
+returns-5 c = (c .ends5 .ensures) ∙ done _ _ _ _ _ _ (c .before .before .before .before .before .before .before .before .before .before .before .before .is-usable .ensures) (c .before .before .before .before .before .before .before .before .before .before .before .if1 .left) (c .before .before .before .before .before .before .before .before .before .if2 .left) _ (frame-of _ _ (c .before .before .before .before .before .before .before .before .place-at .ensures)) _ (c .before .before .before .before .before .before .is-good-cut .ensures) (c .before .before .before .before .before .if3 .left) _ (listed-by _ _ (c .before .before .before .before .before .before .before .before .place-at .ensures) _ _ _ _ _ (c .before .before .before .before .cut-point .ensures)) (c .before .before .if4 .left) _ (c .before .with-edit .ensures)
 
 pub cut-spec : {M : Type 1} → statement M
 cut-spec =
@@ -101,7 +100,7 @@ cut-spec =
     is-good-cut-requires
     ends-requires-3
     returns-3
-    move-by-requires
+    cut-point-requires
     ends-requires-4
     returns-4
     with-edit-requires

@@ -1,29 +1,20 @@
--- `edit_at`: editAt by the first word. Assumes nothing.
-use mathlib.Core.Path.{_≡_, refl}
+-- `edit_at`: editAt by the first word, an orientation's number or none. Assumes nothing.
+use mathlib.Core.Path.{_≡_}
 use mathlib.Core.List.{List}
 use Prim.Native.Nat.{ℕ, _+_, _*_}
 use lib.ListN.{getD}
-use borrow.Author.Tests.{eq-eqb, ne-eqb}
-use Rattle.sheet.specs.declared.edits.Edit.the-variants.{Turn, Mirror, Cut}
-use Rattle.sheet.specs.Place.{editAt}
+use Rattle.sheet.specs.declared.edits.Edit.the-variants.{Cut}
+use Rattle.sheet.specs.declared.orientation.OptionalOrientation.{OptionalOrientation}
+use Rattle.sheet.specs.Orientation.{orientationMeans, orientationOf}
+use Rattle.sheet.specs.Place.{orientOr, editAt}
 use borrow.Author.Needs.{needs}
 use Rattle.sheet.proofs.edits.edit_at.Statement.{statement}
 use Rattle.sheet.proofs.edits.edit_at.Tie as tie
 
-module _ (ws : List ℕ) (i : ℕ) (k : ℕ) (e : k ≡ getD ws (i * 5) 0) where
-  a-turn : k ≡ 0 → Turn ≡ editAt ws i
-  unfolding editAt
-  a-turn a = rw (← e, eq-eqb k 0 a)
-
-  module _ (a : k ≡ 0 → ⊥) where
-    a-mirror : k ≡ 1 → Mirror ≡ editAt ws i
-    unfolding editAt
-    a-mirror b = rw (← e, ne-eqb k 0 a, eq-eqb k 1 b)
-
-    a-cut : (k ≡ 1 → ⊥)
-        → Cut (getD ws (i * 5 + 1) 0) (getD ws (i * 5 + 2) 0) (getD ws (i * 5 + 3) 0) (getD ws (i * 5 + 4) 0) ≡ editAt ws i
-    unfolding editAt
-    a-cut b = rw (← e, ne-eqb k 0 a, ne-eqb k 1 b)
+by-number : (ws : List ℕ) (i : ℕ) (r v : OptionalOrientation) → orientationMeans r ≡ orientationOf (getD ws (i * 5) 0) → r ≡ v
+    → orientOr (Cut (getD ws (i * 5 + 1) 0) (getD ws (i * 5 + 2) 0) (getD ws (i * 5 + 3) 0) (getD ws (i * 5 + 4) 0)) (orientationMeans v) ≡ editAt ws i
+unfolding editAt
+by-number ws i r v e g = rw (← g, e)
 
 mul-at : tie.Need-mul-at
 mul-at c = search needs
@@ -33,12 +24,6 @@ mul-kind c = search needs
 
 element-copy-out-kind : tie.Need-element-copy-out-kind
 element-copy-out-kind c = search needs
-
-returns : tie.Need-returns
-returns c = a-turn _ _ _ refl (c .if1 .taken)
-
-returns-2 : tie.Need-returns-2
-returns-2 c = a-mirror _ _ _ refl (c .before .if1 .left) (c .if2 .taken)
 
 add-left : tie.Need-add-left
 add-left c = search needs
@@ -76,10 +61,20 @@ mul-height c = search needs
 element-copy-out-height : tie.Need-element-copy-out-height
 element-copy-out-height c = search needs
 
-returns-3 : tie.Need-returns-3
-returns-3 c =
-    a-cut _ _ _ refl (c .before .before .before .before .before .if1 .left)
-    (c .before .before .before .before .if2 .left)
+orientation-of-requires : tie.Need-orientation-of-requires
+orientation-of-requires c κs = search needs
+
+enum-known-orientation : tie.Need-enum-known-orientation
+enum-known-orientation c = search needs
+
+enum-told : tie.Need-enum-told
+enum-told c = search needs
+
+returns : tie.Need-returns
+returns c = by-number _ _ _ _ (c .before .before .before .orientation-of .ensures) (c .before .orientation .given .1)
+
+returns-2 : tie.Need-returns-2
+returns-2 c = by-number _ _ _ _ (c .before .before .orientation-of .ensures) (c .enum-told .given .1)
 
 pub edit-at-spec : {M : Type 1} → statement M
 edit-at-spec =
@@ -88,8 +83,6 @@ edit-at-spec =
     mul-at
     mul-kind
     element-copy-out-kind
-    returns
-    returns-2
     add-left
     mul-left
     element-copy-out-left
@@ -102,4 +95,8 @@ edit-at-spec =
     add-height
     mul-height
     element-copy-out-height
-    returns-3)
+    orientation-of-requires
+    enum-known-orientation
+    enum-told
+    returns
+    returns-2)

@@ -2,7 +2,8 @@
 use mathlib.Core.Path.{_≡_}
 use Prim.Native.Nat.{ℕ, _-_}
 use Rattle.placing.specs.declared.focus.FocusPoint.{FocusPoint}
-use Rattle.sheet.specs.Place.{point, movedTo, shiftedPoint}
+use Rattle.sheet.specs.Orientation.{point, movedTo}
+use Rattle.sheet.specs.Place.{shiftedPoint}
 use borrow.Author.Needs.{needs}
 use Rattle.sheet.proofs.edits.shifted_point.Statement.{statement}
 use Rattle.sheet.proofs.edits.shifted_point.Tie as tie
