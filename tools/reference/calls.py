@@ -1,19 +1,21 @@
 #!/usr/bin/env python3
-"""calls.py [SEED COUNT]            write the stored calls of sheet_test
+"""calls.py [SEED COUNT]            write the stored calls of workspace_test
 calls.py --check [SEED COUNT]    say whether the files are what would be written
-calls.py --answers < CALLS       print what sheet_test must print for these calls
+calls.py --answers < CALLS       print what workspace_test must print for these calls
 
-Writes a list of calls for the program sheet_test, crates/sheet_test/stdin, and
-what it must print, crates/sheet_test/stdout: the answers and buffers of the book
-of reference.py, which is fed the calls alone. The front of the list has every
-answer among its own, and every orientation; behind it come COUNT calls by
-chance. The loads are those that are stored for placing_test, and at the front
-those of orientations.py. What is stored is of seed 1 and count 900, which are
-taken if none are given.
+Writes a list of calls for the program workspace_test, stdin of that crate, and
+what it must print, its stdout: the answers and buffers of the book of
+reference.py, which is fed the calls alone. The front of the list has every
+answer among its own, every orientation, and each way in which names and what is
+kept under them can be mistaken; behind it come COUNT calls by chance. The loads
+are those that are stored for placing_test, and at the front those of
+orientations.py. What is stored is of seed 1 and count 900, which are taken if
+none are given.
 """
 
 import collections
 import functools
+import itertools
 import os
 import random
 import struct
@@ -56,11 +58,19 @@ def orient(number):
     return bytes([9, number])
 
 
+def keep(name):
+    return bytes([10, len(name)]) + name
+
+
+def return_to(name):
+    return bytes([11, len(name)]) + name
+
+
 BACK = bytes([5])
 
 
 def answer(book, call):
-    """The line that sheet_test prints for a call."""
+    """The line that workspace_test prints for a call."""
     code, rest = call[0], call[1:]
     if code == 1:
         raw, picture, model, block = stored.load_of(rest)
@@ -78,6 +88,9 @@ def answer(book, call):
         return answer_line(book.fit(width, height, buffer), buffer)
     if code == 9:
         return answer_line(book.orient(rest[0]))
+    if code in (10, 11):
+        name = rest[1 : 1 + rest[0]]
+        return answer_line(book.keep(name) if code == 10 else book.return_to(name))
     sys.exit("no call has the code %d" % code)
 
 
@@ -120,6 +133,7 @@ def any_load():
 def every_answer():
     """Each answer that a call can have, often where higher numbers apply too, and each orientation."""
     yield from (cut(0, 0, 0, 0), orient(6), orient(0), orient(255), BACK, show(0), fit(0, 0, 0))  # 7
+    yield from (call(name) for call in (keep, return_to) for name in NAMES[:1] + BAD_NAMES)  # 7 before 16
     for number in range(1, 7):
         yield load(*loads()["no %d" % number][0][0])
     for given in orientations.PHOTOGRAPHS:
@@ -139,8 +153,88 @@ def every_answer():
     yield show(ENOUGH)
 
 
+# Eight names: some that others begin with, two that a zero byte makes unlike, two that agree in 15 of 16 bytes.
+NAMES = [b"A", b"A\0", b"AB", b"page one", b"page one, insid", b"page one, inside", b"page one, insidE", b"\0"]
+# Eight others that are as near to these.
+OTHERS = [b"page", b"B", b"a", b"A\0\0", b"page one,", b"page one, insid\0", b"\0\0", b"\xff" * 16]
+# Of 0, 17 and 255 bytes.
+BAD_NAMES = [b"", b"page one, inside!", b"page one, inside\0", b"A".ljust(255, b"\0")]
+
+
+# To draw from: more than can be kept.
+SOME_NAMES = NAMES + OTHERS[:3]
+
+
+def shown(names):
+    """A return to each name, and a list after it."""
+    for name in names:
+        yield from (return_to(name), show(30))
+
+
+def eight_names(names, others):
+    """On a sheet of orientations.NAMED without names: eight are kept, each in an orientation of its own, beside names that are not
+    there; then each once more, with a cut behind its orientation."""
+    yield from map(return_to, names + BAD_NAMES)
+    for number, name in zip(orientations.EIGHT, names):
+        yield from (orient(number), keep(name), BACK, return_to(others[number - 1]))
+    yield BACK  # a keep is no edit
+    yield from map(keep, others + BAD_NAMES)  # 17, and 16 before it
+    yield from map(return_to, others + BAD_NAMES)  # 18, and 16 before it
+    yield from shown(names + names[::-1])
+    for number in (3, 8, 1, 6, 2, 7, 4, 5):
+        name = names[number - 1]
+        yield from (return_to(name), cut(number, 2 * number, 4000, 4000), keep(name), BACK, show(30), keep(others[number - 1]))
+        yield from shown(names)
+    for name in names:
+        yield from (return_to(name), BACK, show(30), BACK, BACK)
+
+
+def around_loads():
+    """Refused loads keep the names; an accepted one clears them, and there is room for eight others."""
+    yield load(*orientations.NAMED)
+    yield from eight_names(NAMES, OTHERS)
+    for number in range(1, 7):
+        yield load(*loads()["no %d" % number][0][0])
+        yield from shown(NAMES[number : number + 1])
+    yield from (load(*orientations.NAMED), show(30), BACK)
+    yield from eight_names(OTHERS, NAMES)
+    yield from (load(*orientations.NAMED), *map(return_to, OTHERS), keep(NAMES[5]), load(*orientations.CORNER), return_to(NAMES[5]))
+
+
+def kept_edits():
+    """What is kept under a name: the edits of the latest accepted keep, whatever is done after it."""
+    some, other = NAMES[:2]
+    yield from (load(*orientations.NAMED), keep(some), orient(6), orient(2), keep(other), BACK, BACK, orient(3), orient(5))
+    yield from (return_to(other), show(30), BACK, show(30), orient(8), show(30), *shown([other, some, other, other]))
+    yield from (orient(7), keep(some), *shown([some, other]), keep(some), *shown([some]), orient(4), *shown([some]))
+    # A refused call changes nothing.
+    yield from (orient(4), keep(b""), return_to(b""), return_to(OTHERS[0]), show(30), *shown([some, other]))
+    # No edits, kept over some.
+    yield from (BACK, BACK, BACK, keep(some), orient(5), return_to(some), show(30), BACK)
+    # A cut is judged by the frame that is come back to: within it or not, with the primary or not.
+    inside, whole, corner = cut(3000, 2300, 500, 400), cut(0, 0, 6016, 4016), cut(0, 0, 400, 400)
+    yield from (inside, keep(other), return_to(some), corner, inside, return_to(some), whole, BACK)
+    yield from (return_to(other), whole, cut(0, 0, 501, 400), cut(0, 0, 500, 401), corner, show(30))
+    yield from (return_to(other), orient(6), whole, cut(0, 0, 400, 500), show(30))
+    yield from (return_to(some), fit(300, 200, 30), return_to(other), fit(300, 200, 30))
+
+
+def behind_the_most():
+    """Keeps and returns where as many edits stand as may; they are no edits themselves."""
+    one, most = NAMES[4:6]
+    yield from (load(*orientations.NAMED), orient(6), keep(one), keep(one))
+    for i in range(reference.MAX_EDITS - 1):
+        yield orient((i * i + i // 5) % 8 + 1)
+    yield from (orient(1), keep(most), show(30), keep(b""), return_to(b""), return_to(b"B"), return_to(most), show(30), orient(1))
+    yield from (return_to(one), show(30), orient(2), return_to(most), show(30), orient(1), cut(0, 0, 1, 1), return_to(most))
+    yield from (BACK, orient(8), show(30), return_to(most), return_to(one), BACK, BACK, return_to(most))
+    for _ in range(reference.MAX_EDITS + 1):
+        yield BACK
+    yield from shown([most, one])
+
+
 class Run:
-    """Calls one after the other, what they are answered, and the book that knows the sheet."""
+    """Calls one after the other, what they are answered, and the book that knows the workspace."""
 
     def __init__(self, seed):
         self.chance = random.Random(seed)
@@ -160,7 +254,8 @@ class Run:
 
     def one_call(self):
         chance, book = self.chance, self.book
-        kind = chance.choices(["load", "cut", "orient", "back", "list", "fit", "full"], [6, 22, 28, 14, 20, 12, 0.2])[0]
+        kind = chance.choices(["load", "cut", "orient", "back", "list", "fit", "keep", "return", "names", "full"],
+                              [6, 22, 28, 14, 20, 12, 12, 14, 0.6, 0.2])[0]
         if kind == "load":
             self.add(load(*chance.choice(any_load())))
         elif kind == "cut":
@@ -174,9 +269,29 @@ class Run:
         elif kind == "fit":
             box = [chance.choice([0, 1, 2, 37, 100, 640, 424, 1000, 6016, 4294967295]) for _ in range(2)]
             self.add(fit(*box, self.some_places()))
-        else:  # orientations until no more may stand
+        elif kind == "keep":
+            self.add(keep(self.a_name()))
+        elif kind == "return":
+            self.back_to(self.a_name())
+        elif kind == "names":  # keeps, each behind another edit, until no other name may be kept; then returns to some of them
+            for name in chance.sample(SOME_NAMES, len(SOME_NAMES)):
+                self.add(orient(stored.an_orientation(chance)))
+                self.add(keep(name))
+            for name in chance.sample(SOME_NAMES, 4):
+                self.back_to(name)
+        else:  # orientations until no more may stand, and a keep behind them
             for _ in range(reference.MAX_EDITS - len(book.row)):
                 self.add(orient(chance.randrange(1, 9)))
+            self.add(keep(self.a_name()))
+
+    def back_to(self, name):
+        """A return, and often a list after it."""
+        self.add(return_to(name))
+        if self.chance.random() < 0.6:
+            self.add(show(self.some_places()))
+
+    def a_name(self):
+        return self.chance.choice(SOME_NAMES if self.chance.random() < 0.9 else BAD_NAMES)
 
     def some_places(self):
         """How many places: often just enough, or one too few."""
@@ -192,14 +307,14 @@ def tally(answers):
 def files(seed, count):
     """The files, as (path, bytes)."""
     run = Run(seed)
-    for data in every_answer():
+    for data in itertools.chain(every_answer(), around_loads(), kept_edits(), behind_the_most()):
         run.add(data)
     front = tally(run.lines)
-    missing = [name for name in ["ok", "frame"] + ["no %d" % n for n in range(1, 16) if n != 14] if not front[name]]
+    missing = [name for name in ["ok", "frame"] + ["no %d" % n for n in range(1, 19) if n != 14] if not front[name]]
     if missing:
         sys.exit("no call of the front is answered %s" % ", ".join(missing))
     run.by_chance(count)
-    crate = os.path.join("crates", "sheet_test")
+    crate = os.path.join("crates", "workspace_test")
     yield os.path.join(crate, "stdin"), b"".join(run.calls)
     yield os.path.join(crate, "stdout"), "".join(line + "\n" for line in run.lines).encode()
     print("%d calls: %s" % (len(run.calls), lines.tally_text(tally(run.lines))))

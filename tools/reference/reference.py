@@ -31,6 +31,8 @@ MAX_BLOCK = 1_048_576
 MAX_U32 = 4_294_967_295
 MAX_EDITS = 64
 MAX_LINE = 4_096
+MAX_NAME = 16
+MAX_NAMES = 8
 
 
 def no(number):
@@ -424,7 +426,8 @@ def move(point, frame, step):
 
 
 class Book:
-    """What a list of calls amounts to: empty, or a load and standing edits.
+    """What a list of calls amounts to: empty, or a load, standing edits and
+    names, each with the edits that are kept under it.
 
     Calls answer ('no', n), 'ok', a Listing, or the tags of `contents`. A
     refused call leaves the book, and the buffer, as they are."""
@@ -432,6 +435,7 @@ class Book:
     def __init__(self):
         self.held = None
         self.row = []
+        self.names = {}
 
     def frame(self):
         return frame_through(self.held.frame, self.row)
@@ -446,7 +450,7 @@ class Book:
         answer = load(block, raw, picture, model)
         if refused(answer):
             return answer
-        self.held, self.row = answer, []
+        self.held, self.row, self.names = answer, [], {}
         return "ok"
 
     def cut(self, left, top, width, height):
@@ -479,6 +483,28 @@ class Book:
         if not self.row:
             return no(11)
         self.row = self.row[:-1]
+        return "ok"
+
+    def keep(self, name):
+        """Keeps the standing edits under a name, in place of those that it had."""
+        if self.held is None:
+            return no(7)
+        if not 1 <= len(name) <= MAX_NAME:
+            return no(16)
+        if name not in self.names and len(self.names) >= MAX_NAMES:
+            return no(17)
+        self.names[name] = list(self.row)
+        return "ok"
+
+    def return_to(self, name):
+        """Makes the edits that are kept under a name the standing ones."""
+        if self.held is None:
+            return no(7)
+        if not 1 <= len(name) <= MAX_NAME:
+            return no(16)
+        if name not in self.names:
+            return no(18)
+        self.row = list(self.names[name])
         return "ok"
 
     def list(self, buffer):
@@ -671,6 +697,75 @@ def call_line(*data):
     return (body + bytes([-sum(body) % 256])).hex().encode()
 
 
+def after(*calls):
+    """What a loaded book answers to these calls, each a method's name and its
+    arguments; then the numbers of the orientations that stand."""
+    book = Book()
+    book.load(named_block(1), None, None, MODEL)
+    answers = [getattr(book, name)(*arguments) for name, *arguments in calls]
+    return answers + [number for _, number in book.row]
+
+
+def keep(name):
+    return ("keep", name)
+
+
+def return_to(name):
+    return ("return_to", name)
+
+
+TURN_CALL, MIRROR_CALL, BACK_CALL = ("orient", 6), ("orient", 2), ("back",)
+
+
+def name_checks():
+    """Names judged, as (what it is, got, wanted)."""
+    letters = [bytes([letter]) for letter in b"ABCDEFGHI"]
+    eight = [keep(letter) for letter in letters[:8]]
+    lengths = [bytes(length) for length in (0, 17, 255)]
+    accepted, unreadable = ("load", named_block(1), None, None, MODEL), ("load", b"", None, None, MODEL)
+    empty = Book()
+    return [
+        ("7 before 16", [call(name) for call in (empty.keep, empty.return_to) for name in lengths + [b"A"]], [no(7)] * 8),
+        ("names of 0, 17 and 255 bytes", after(*map(keep, lengths), *map(return_to, lengths)), [no(16)] * 6),
+        ("names of 1 and 16 bytes", after(keep(bytes(1)), keep(bytes(16)), return_to(bytes(16))), ["ok"] * 3),
+        ("a ninth name", after(*eight, keep(b"I")), ["ok"] * 8 + [no(17)]),
+        ("16 before 17 and 18", after(*eight, keep(b""), return_to(b"")), ["ok"] * 8 + [no(16)] * 2),
+        ("a name kept again is no ninth",
+         after(*eight, TURN_CALL, keep(b"C"), MIRROR_CALL, return_to(b"C"), keep(b"I")), ["ok"] * 12 + [no(17), 6]),
+        ("a refused keep or return changes nothing",
+         after(*eight, TURN_CALL, keep(b"I"), keep(b""), return_to(b"I"), return_to(b"H"), TURN_CALL, return_to(b"")),
+         ["ok"] * 9 + [no(17), no(16), no(18), "ok", "ok", no(16), 6]),
+        ("no such name", after(return_to(b"A"), TURN_CALL, keep(b"B"), return_to(b"A")), [no(18), "ok", "ok", no(18), 6]),
+        ("an accepted load clears the names", after(keep(b"A"), accepted, return_to(b"A")), ["ok", "ok", no(18)]),
+        ("eight new names after it", after(*eight, accepted, *map(keep, letters[1:])), ["ok"] * 17),
+        ("a refused load keeps the names",
+         after(TURN_CALL, keep(b"A"), unreadable, MIRROR_CALL, return_to(b"A")), ["ok", "ok", no(1), "ok", "ok", 6]),
+        ("a name that is another's beginning",
+         after(TURN_CALL, keep(b"AB"), MIRROR_CALL, keep(b"ABC"), return_to(b"AB"), return_to(b"A")), ["ok"] * 5 + [no(18), 6]),
+        ("names that agree in 15 of 16 bytes",
+         after(TURN_CALL, keep(b"page one, inside"), MIRROR_CALL, keep(b"page one, insidE"), return_to(b"page one, inside")),
+         ["ok"] * 5 + [6]),
+        ("a zero byte at a name's end",
+         after(TURN_CALL, keep(b"A"), return_to(b"A\0"), MIRROR_CALL, keep(b"A\0"), return_to(b"A")),
+         ["ok", "ok", no(18), "ok", "ok", "ok", 6]),
+    ]
+
+
+def kept_checks():
+    """Edits that are kept and returned to, as (what it is, got, wanted)."""
+    there, back = [TURN_CALL, keep(b"A")], return_to(b"A")
+    return [
+        ("the latest keep under a name", after(*there, MIRROR_CALL, keep(b"A"), MIRROR_CALL, back), ["ok"] * 6 + [6, 2]),
+        ("edits change nothing that is kept", after(*there, MIRROR_CALL, back, MIRROR_CALL, back), ["ok"] * 6 + [6]),
+        ("nor do backs", after(*there, BACK_CALL, MIRROR_CALL, back, BACK_CALL, back), ["ok"] * 7 + [6]),
+        ("back after a return", after(TURN_CALL, *there, BACK_CALL, BACK_CALL, back, BACK_CALL), ["ok"] * 7 + [6]),
+        ("no edits kept", after(keep(b"A"), TURN_CALL, back, BACK_CALL), ["ok"] * 3 + [no(11)]),
+        ("a return where 64 edits stand", after(*there, *[MIRROR_CALL] * 64, back), ["ok"] * 65 + [no(8), "ok", 6]),
+        ("a return to 64 edits",
+         after(*[MIRROR_CALL] * 64, keep(b"A"), BACK_CALL, back, TURN_CALL), ["ok"] * 67 + [no(8)] + [2] * 64),
+    ]
+
+
 def self_test():
     dx = (2, 6016, 4016, 3936, 2624, 1040, 696)
 
@@ -714,6 +809,8 @@ def self_test():
         ("an odd count of digits", run_script(b"06FA0\n"), "no 14\n"),
         ("another character", run_script(b"06FA\r\n"), "no 14\n"),
         ("an unknown code", run_script(call_line(b"\x0a")), "no 14\n"),
+        ("no codes for keep and return",
+         run_script(call_line(b"\x0a\x01A") + b"\n" + call_line(b"\x0b\x01A")), "no 14\n" * 2),
         ("the codes of turn and mirror", run_script(b"03FD\n04FC\n"), "no 14\n" * 2),
         ("a wrong length", run_script(call_line(b"\x06\x00")), "no 14\n"),
         ("no number, and two", run_script(call_line(b"\x09") + b"\n" + call_line(b"\x09\x06\x06")), "no 14\n" * 2),
@@ -756,7 +853,7 @@ def self_test():
         ("cut past the frame", book.cut(1, 0, 6016, 1), no(9)),
         ("cut that drops the primary", book.cut(0, 0, 100, 100), no(10)),
         ("fit to a zero side", book.fit(0, 5, []), no(12)),
-    ]
+    ] + name_checks() + kept_checks()
     failed = [(name, got, wanted) for name, got, wanted in checks if got != wanted]
     for name, got, wanted in failed:
         print("%s: got %r, wanted %r" % (name, got, wanted))

@@ -4,8 +4,8 @@ use native.Mathlib.Omega.{arith}
 use lib.Seq.{length-take-le}
 use denote.Ref.{now}
 use borrow.Author.Needs.{needs}
-use Rattle.sheet_test.proofs.list.Statement.{statement}
-use Rattle.sheet_test.proofs.list.Tie as tie
+use Rattle.workspace_test.proofs.list.Statement.{statement}
+use Rattle.workspace_test.proofs.list.Tie as tie
 
 u8-at-requires : tie.Need-u8-at-requires
 u8-at-requires c κs = search needs

@@ -3,14 +3,14 @@ use mathlib.Core.Path.{_≡_}
 use native.Mathlib.Omega.{arith}
 use lib.ListN.{length}
 use borrow.Author.Needs.{needs}
-use Rattle.sheet_test.proofs.main.Statement.{statement}
-use Rattle.sheet_test.proofs.main.Tie as tie
+use Rattle.workspace_test.proofs.main.Statement.{statement}
+use Rattle.workspace_test.proofs.main.Tie as tie
 
 abbrev Inv-loop : tie.InvT-loop
-Inv-loop call₀ sheet₀ turns₀ call sheet turns = 512 ≡ length call
+Inv-loop call₀ workspace₀ turns₀ call workspace turns = 512 ≡ length call
 
 abbrev μ-loop : tie.MeasureT-loop
-μ-loop call₀ sheet₀ turns₀ call sheet turns = turns
+μ-loop call₀ workspace₀ turns₀ call workspace turns = turns
 
 space-requires : tie.Need-space-requires Inv-loop μ-loop
 space-requires c κs = search needs

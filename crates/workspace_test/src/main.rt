@@ -1,19 +1,20 @@
-// Runs a list of calls on one sheet and prints what each answers and leaves in its buffer. A call is 512 bytes: its code in the
+// Runs a list of calls on one workspace and prints what each answers and leaves in its buffer. A call is 512 bytes: its code in the
 // first, then what it takes, then zeros. 1 load: a byte of flags (1 raw size, 2 picture size), the two sizes as four 32-bit
 // numbers, the model's length in a byte, the block's length in two, the model, the block. 2 cut: left, top, width, height. 5 back.
 // 6 list: the buffer's places in a byte. 7 fit: width, height, and the buffer's places in a byte. 9 orient: the number in a byte.
-// Numbers are big-endian. Place i of a buffer holds i + 1 before a call. No contract can say what is printed: that is held to
-// `stdout`.
+// 10 keep, 11 return: the name's length in a byte, the name. Numbers are big-endian. Place i of a buffer holds i + 1 before a call.
+// No contract can say what is printed: that is held to `stdout`.
 use libc::STDIN_FILENO;
 use libc::STDOUT_FILENO;
 use numbers::io::ByteOrder;
 use reading::geometry::OptionalSize;
 use reading::geometry::Size;
-use sheet::Edited;
-use sheet::Loaded;
-use sheet::Sheet;
 use sheet::listing::ListAnswer;
 use sheet::listing::ListHead;
+use workspace::Checkpointed;
+use workspace::EditedWorkspace;
+use workspace::LoadedWorkspace;
+use workspace::Workspace;
 ghost use mathlib.Core.Path.{_≡_};
 ghost use lib.ListN.{length};
 
@@ -37,18 +38,25 @@ fn print_number(n: u32) {
     }
 }
 
-fn after_edit(r: Edited) -> Sheet {
+fn after_edit(r: EditedWorkspace) -> Workspace {
     let answer = r.answer;
     print_number(sheet::edits::edit_number(answer));
-    let s = r.sheet;
-    s
+    let w = r.workspace;
+    w
 }
 
-fn after_load(r: Loaded) -> Sheet {
+fn after_load(r: LoadedWorkspace) -> Workspace {
     let answer = r.answer;
     print_number(placing::load::load_number(answer));
-    let s = r.sheet;
-    s
+    let w = r.workspace;
+    w
+}
+
+fn after_checkpoint(r: Checkpointed) -> Workspace {
+    let answer = r.answer;
+    print_number(workspace::checkpoint_number(answer));
+    let w = r.workspace;
+    w
 }
 
 fn print_head(l: ListHead) {
@@ -112,7 +120,7 @@ fn given_at(s: &[u8], at: usize, given: bool) -> OptionalSize {
     OptionalSize::Given(size_at(s, at))
 }
 
-fn load(sheet: Sheet, call: &[u8]) -> Sheet {
+fn load(workspace: Workspace, call: &[u8]) -> Workspace {
     let flags = numbers::io::u8_at(call, 1);
     let raw = given_at(call, 2, flags % 2 == 1);
     let picture = given_at(call, 10, flags / 2 % 2 == 1);
@@ -121,69 +129,77 @@ fn load(sheet: Sheet, call: &[u8]) -> Sheet {
     let rest = numbers::io::tail(call, 21);
     let model = numbers::io::head(rest, model_len);
     let block = numbers::io::head(numbers::io::tail(rest, model_len), block_len);
-    after_load(sheet.load(block, raw, picture, model))
+    after_load(workspace.load(block, raw, picture, model))
 }
 
-fn cut(sheet: Sheet, call: &[u8]) -> Sheet {
+fn cut(workspace: Workspace, call: &[u8]) -> Workspace {
     let left = number_at(call, 1);
     let top = number_at(call, 5);
     let width = number_at(call, 9);
     let height = number_at(call, 13);
-    after_edit(sheet.cut(left, top, width, height))
+    after_edit(workspace.cut(left, top, width, height))
 }
 
-fn orient(sheet: Sheet, call: &[u8]) -> Sheet {
+fn orient(workspace: Workspace, call: &[u8]) -> Workspace {
     let number = numbers::io::u8_at(call, 1) as u32;
-    after_edit(sheet.orient(number))
+    after_edit(workspace.orient(number))
 }
 
-fn list_into(sheet: Sheet, out: &mut [u32]) {
-    print_list(sheet.list(out));
+// The name of a keep or a return.
+fn name_in<'a>(call: &'a [u8]) -> &'a [u8] {
+    let len = numbers::io::u8_at(call, 1) as usize;
+    numbers::io::head(numbers::io::tail(call, 2), len)
+}
+
+fn list_into(workspace: Workspace, out: &mut [u32]) {
+    print_list(workspace.list(out));
     print_buffer(out);
 }
 
-fn fit_into(sheet: Sheet, size: Size, out: &mut [u32]) {
-    print_list(sheet.fit(size, out));
+fn fit_into(workspace: Workspace, size: Size, out: &mut [u32]) {
+    print_list(workspace.fit(size, out));
     print_buffer(out);
 }
 
-fn list(sheet: Sheet, call: &[u8], out: &mut [u32])
+fn list(workspace: Workspace, call: &[u8], out: &mut [u32])
     requires { ⌜ length (now out) ≡ 256 ⌝ }
 {
     let n = numbers::io::u8_at(call, 1) as usize;
-    list_into(sheet, &mut out[..n]);
+    list_into(workspace, &mut out[..n]);
 }
 
-fn fit(sheet: Sheet, call: &[u8], out: &mut [u32])
+fn fit(workspace: Workspace, call: &[u8], out: &mut [u32])
     requires { ⌜ length (now out) ≡ 256 ⌝ }
 {
     let n = numbers::io::u8_at(call, 9) as usize;
     let size = size_at(call, 1);
-    fit_into(sheet, size, &mut out[..n]);
+    fit_into(workspace, size, &mut out[..n]);
 }
 
 // A list or a fit on a buffer of its own.
-fn show(sheet: Sheet, call: &[u8], code: u8) {
+fn show(workspace: Workspace, call: &[u8], code: u8) {
     let mut space = places();
     let out: &mut [u32] = &mut space;
     if code == 6 {
-        list(sheet, call, out);
+        list(workspace, call, out);
     } else {
-        fit(sheet, call, out);
+        fit(workspace, call, out);
     }
 }
 
-// Answers one call, and gives the sheet that it leaves.
-fn answer(sheet: Sheet, call: &[u8]) -> Sheet {
+// Answers one call, and gives the workspace that it leaves.
+fn answer(workspace: Workspace, call: &[u8]) -> Workspace {
     let code = numbers::io::u8_at(call, 0);
     match code {
-        1 => load(sheet, call),
-        2 => cut(sheet, call),
-        5 => after_edit(sheet.back()),
-        9 => orient(sheet, call),
+        1 => load(workspace, call),
+        2 => cut(workspace, call),
+        5 => after_edit(workspace.back()),
+        9 => orient(workspace, call),
+        10 => after_checkpoint(workspace.keep(name_in(call))),
+        11 => after_checkpoint(workspace.return_to(name_in(call))),
         _ => {
-            show(sheet, call, code);
-            sheet
+            show(workspace, call, code);
+            workspace
         }
     }
 }
@@ -196,14 +212,14 @@ fn space() -> [u8; 512]
 
 fn main() {
     let mut call = space();
-    let mut sheet = Sheet::new();
+    let mut workspace = Workspace::new();
     let mut turns = u64::MAX;
     while turns > 0 {
         let n = io::read_full(STDIN_FILENO, &mut call);
         if n < 512 {
             return;
         }
-        sheet = answer(sheet, &call);
+        workspace = answer(workspace, &call);
         turns -= 1;
     }
 }

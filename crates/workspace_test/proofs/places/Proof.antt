@@ -3,8 +3,8 @@ use mathlib.Core.Path.{_≡_, refl, sym, _∙_}
 use Prim.Native.Nat.{_≤_, _-_}
 use native.Mathlib.Omega.{arith}
 use lib.ListN.{length, length-set}
-use Rattle.sheet_test.proofs.places.Statement.{statement}
-use Rattle.sheet_test.proofs.places.Tie as tie
+use Rattle.workspace_test.proofs.places.Statement.{statement}
+use Rattle.workspace_test.proofs.places.Tie as tie
 
 abbrev Inv-loop : tie.InvT-loop
 Inv-loop p₀ i₀ p i = (i ≤ 256) × (256 ≡ length p)

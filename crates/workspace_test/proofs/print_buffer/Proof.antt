@@ -3,8 +3,8 @@ use Prim.Native.Nat.{_≤_, _-_}
 use native.Mathlib.Omega.{arith}
 use lib.ListN.{length}
 use borrow.Author.Needs.{needs}
-use Rattle.sheet_test.proofs.print_buffer.Statement.{statement}
-use Rattle.sheet_test.proofs.print_buffer.Tie as tie
+use Rattle.workspace_test.proofs.print_buffer.Statement.{statement}
+use Rattle.workspace_test.proofs.print_buffer.Tie as tie
 
 abbrev Inv-loop : tie.InvT-loop
 Inv-loop out i₀ t4 t5 i = i ≤ length out
