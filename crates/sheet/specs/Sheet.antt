@@ -23,12 +23,12 @@ use Rattle.sheet.specs.Answer.{editMeans}
 use Rattle.sheet.specs.Orientation.{orientationOf}
 use Rattle.sheet.specs.Place.{wordsOf, moved, placed, isGoodCut}
 
--- how a call ends that gives nothing but a sheet. Accepted, it leaves this one
-abbrev pub leaves : Sheet → Outcome (List ℕ) × Sheet
+-- how a call ends that gives nothing but the sheet, or what else it was called on. Accepted, it leaves this one
+abbrev pub leaves : {A : Type 0} → A → Outcome (List ℕ) × A
 leaves s = (accepted [], s)
 
 -- refused by one of the documents' numbers: "sheet kept"
-abbrev pub keptBy : ℕ → Sheet → Outcome (List ℕ) × Sheet
+abbrev pub keptBy : {A : Type 0} → ℕ → A → Outcome (List ℕ) × A
 keptBy n s = (refused n, s)
 
 -- what the code's values mean: that of the answer, and the sheet

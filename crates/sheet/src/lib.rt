@@ -118,7 +118,7 @@ impl Sheet {
     }
 
     // Whether the sheet is loaded, its counts lie within its places, and its primary is one of its points.
-    fn is_usable(self) -> bool
+    pub fn is_usable(self) -> bool
         ensures { λ r. ⌜ r ≡ usable self ⌝ }
     {
         if !self.loaded {

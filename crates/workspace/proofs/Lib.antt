@@ -1,0 +1,2 @@
+pub mod NamePlaces
+pub mod Tests
