@@ -1,0 +1,57 @@
+-- `lists_on_workspace` is safe and ends: the count falls, and the buffer keeps its length. Assumes nothing.
+use mathlib.Core.Path.{_≡_, refl}
+use Prim.Native.Nat.{_≤_}
+use native.Mathlib.Omega.{arith}
+use lib.ListN.{length}
+use borrow.Author.Needs.{needs}
+use Rattle.state_bench.proofs.lists_on_workspace.Statement.{statement}
+use Rattle.state_bench.proofs.lists_on_workspace.Tie as tie
+
+abbrev Inv-loop : tie.InvT-loop
+Inv-loop workspace out₀ count last₀ left₀ out last left = (left ≤ count) × (length out ≡ length out₀)
+
+abbrev μ-loop : tie.MeasureT-loop
+μ-loop workspace out₀ count last₀ left₀ out last left = left
+
+loop-holds : tie.Need-loop-holds Inv-loop μ-loop
+loop-holds c = (omega arith, refl)
+
+list-requires : tie.Need-list-requires Inv-loop μ-loop
+list-requires c κs = search needs
+
+list-number-requires : tie.Need-list-number-requires Inv-loop μ-loop
+list-number-requires c κs = search needs
+
+sub-left : tie.Need-sub-left Inv-loop μ-loop
+sub-left c = omega arith
+
+loop-less : tie.Need-loop-less Inv-loop μ-loop
+loop-less c = omega arith
+
+loop-again : tie.Need-loop-again Inv-loop μ-loop
+loop-again c = (omega arith, search needs)
+
+print-end-requires : tie.Need-print-end-requires Inv-loop μ-loop
+print-end-requires c κs = search needs
+
+same-length : tie.Need-same-length Inv-loop μ-loop
+same-length c = search needs
+
+returns : tie.Need-returns Inv-loop μ-loop
+returns c = search needs
+
+pub lists-on-workspace-spec : {M : Type 1} → statement M
+lists-on-workspace-spec =
+    tie.close
+    (tie.spec
+    Inv-loop
+    μ-loop
+    loop-holds
+    list-requires
+    list-number-requires
+    sub-left
+    loop-less
+    loop-again
+    print-end-requires
+    same-length
+    returns)

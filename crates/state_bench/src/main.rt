@@ -1,0 +1,262 @@
+// Makes one call, or a pair of calls, many times over on one state, to be timed: every state is handed on by value. The first 512
+// bytes of standard input are a load as workspace_test reads it (its sizes are not looked at), every 512 after them a job: its kind
+// in a byte, how many times in 32 bits, big-endian, and zeros. Each job starts from the load, with one turn (orientation 6) standing,
+// and on a workspace with eight names kept, of 16 bytes each, that differ in the last. Kinds: 1 a turn and a back on a sheet, 2 on a
+// workspace. 3 a keep and a return on a workspace, under the name at the last of the eight places; 4 the keep alone. 5 a list on a
+// sheet, 6 on a workspace, into 240 places. 7 an orientation of number 0, which is refused and changes nothing, on a sheet, 8 on a
+// workspace: what is left is handing the state on. Prints for each job the kind, how many times, the last answer (`ok`, `no N`, or
+// `none` without a call), and how many edits stand at the end. No contract can say what is printed: that is held to `stdout`.
+use libc::STDIN_FILENO;
+use libc::STDOUT_FILENO;
+use numbers::io::ByteOrder;
+use reading::geometry::OptionalSize;
+use sheet::Sheet;
+use workspace::Workspace;
+ghost use mathlib.Core.Path.{_≡_};
+ghost use lib.ListN.{length};
+
+const TURN: u32 = 6;
+
+// No answer has this number.
+const NO_CALL: u32 = 255;
+
+fn text(s: &[u8]) {
+    io::write_all(STDOUT_FILENO, s);
+}
+
+// A word and a number in decimal.
+fn number(word: &[u8], n: u64) {
+    text(word);
+    io::print_decimal(STDOUT_FILENO, n);
+}
+
+// The last answer by its number, 0 for accepted, and how many edits stand.
+fn print_end(answer: u32, standing: usize) {
+    if answer == NO_CALL {
+        text(b": none");
+    } else if answer == 0 {
+        text(b": ok");
+    } else {
+        number(b": no ", answer as u64);
+    }
+    number(b", standing ", standing as u64);
+    text(b"\n");
+}
+
+// The load's model and block.
+fn model_in<'a>(call: &'a [u8]) -> &'a [u8] {
+    let len = numbers::io::u8_at(call, 18) as usize;
+    numbers::io::head(numbers::io::tail(call, 21), len)
+}
+
+fn block_in<'a>(call: &'a [u8]) -> &'a [u8] {
+    let model_len = numbers::io::u8_at(call, 18) as usize;
+    let len = numbers::io::u16_of(numbers::io::tail(call, 19), ByteOrder::Big) as usize;
+    numbers::io::head(
+        numbers::io::tail(numbers::io::tail(call, 21), model_len),
+        len,
+    )
+}
+
+// The load on a sheet, with a turn behind it.
+fn sheet_of(call: &[u8]) -> Sheet {
+    let missing = OptionalSize::Missing;
+    let loaded = Sheet::new().load(block_in(call), missing, missing, model_in(call));
+    let sheet = loaded.sheet;
+    let turned = sheet.orient(TURN);
+    let s = turned.sheet;
+    s
+}
+
+// The name at a place: 16 bytes, the last of them the place's number.
+fn name_at(place: u8) -> [u8; 16] {
+    let mut name = [110u8; 16];
+    name[15] = place;
+    name
+}
+
+// The load on a workspace, with a turn behind it, kept under eight names.
+fn workspace_of(call: &[u8]) -> Workspace {
+    let missing = OptionalSize::Missing;
+    let loaded = Workspace::new().load(block_in(call), missing, missing, model_in(call));
+    let workspace = loaded.workspace;
+    let turned = workspace.orient(TURN);
+    let mut w = turned.workspace;
+    let mut place: u8 = 0;
+    while place < 8 {
+        let name = name_at(place);
+        let kept = w.keep(&name);
+        w = kept.workspace;
+        place += 1;
+    }
+    w
+}
+
+fn turns_on_sheet(sheet: Sheet, count: u32) {
+    let mut s = sheet;
+    let mut last = NO_CALL;
+    let mut left = count;
+    while left > 0 {
+        let turned = s.orient(TURN);
+        let between = turned.sheet;
+        let r = between.back();
+        let answer = r.answer;
+        last = sheet::edits::edit_number(answer);
+        s = r.sheet;
+        left -= 1;
+    }
+    print_end(last, s.standing);
+}
+
+fn turns_on_workspace(workspace: Workspace, count: u32) {
+    let mut w = workspace;
+    let mut last = NO_CALL;
+    let mut left = count;
+    while left > 0 {
+        let turned = w.orient(TURN);
+        let between = turned.workspace;
+        let r = between.back();
+        let answer = r.answer;
+        last = sheet::edits::edit_number(answer);
+        w = r.workspace;
+        left -= 1;
+    }
+    let s = w.sheet;
+    print_end(last, s.standing);
+}
+
+fn keeps_and_returns(workspace: Workspace, name: &[u8], count: u32) {
+    let mut w = workspace;
+    let mut last = NO_CALL;
+    let mut left = count;
+    while left > 0 {
+        let kept = w.keep(name);
+        let between = kept.workspace;
+        let r = between.return_to(name);
+        let answer = r.answer;
+        last = workspace::checkpoint_number(answer);
+        w = r.workspace;
+        left -= 1;
+    }
+    let s = w.sheet;
+    print_end(last, s.standing);
+}
+
+fn keeps(workspace: Workspace, name: &[u8], count: u32) {
+    let mut w = workspace;
+    let mut last = NO_CALL;
+    let mut left = count;
+    while left > 0 {
+        let r = w.keep(name);
+        let answer = r.answer;
+        last = workspace::checkpoint_number(answer);
+        w = r.workspace;
+        left -= 1;
+    }
+    let s = w.sheet;
+    print_end(last, s.standing);
+}
+
+fn lists_on_sheet(sheet: Sheet, out: &mut [u32], count: u32) {
+    let mut last = NO_CALL;
+    let mut left = count;
+    while left > 0 {
+        last = sheet::listing::list_number(sheet.list(out));
+        left -= 1;
+    }
+    print_end(last, sheet.standing);
+}
+
+fn lists_on_workspace(workspace: Workspace, out: &mut [u32], count: u32) {
+    let mut last = NO_CALL;
+    let mut left = count;
+    while left > 0 {
+        last = sheet::listing::list_number(workspace.list(out));
+        left -= 1;
+    }
+    let s = workspace.sheet;
+    print_end(last, s.standing);
+}
+
+fn refusals_on_sheet(sheet: Sheet, count: u32) {
+    let mut s = sheet;
+    let mut last = NO_CALL;
+    let mut left = count;
+    while left > 0 {
+        let r = s.orient(0);
+        let answer = r.answer;
+        last = sheet::edits::edit_number(answer);
+        s = r.sheet;
+        left -= 1;
+    }
+    print_end(last, s.standing);
+}
+
+fn refusals_on_workspace(workspace: Workspace, count: u32) {
+    let mut w = workspace;
+    let mut last = NO_CALL;
+    let mut left = count;
+    while left > 0 {
+        let r = w.orient(0);
+        let answer = r.answer;
+        last = sheet::edits::edit_number(answer);
+        w = r.workspace;
+        left -= 1;
+    }
+    let s = w.sheet;
+    print_end(last, s.standing);
+}
+
+// The lists of kinds 5 and 6, in a buffer of their own.
+fn lists(load: &[u8], kind: u8, count: u32) {
+    let mut out = [0u32; 240];
+    if kind == 5 {
+        lists_on_sheet(sheet_of(load), &mut out, count);
+    } else {
+        lists_on_workspace(workspace_of(load), &mut out, count);
+    }
+}
+
+// Does one job.
+fn run(load: &[u8], job: &[u8]) {
+    let kind = numbers::io::u8_at(job, 0);
+    let count = numbers::io::u32_of(numbers::io::tail(job, 1), ByteOrder::Big);
+    let name = name_at(7);
+    number(b"kind ", kind as u64);
+    number(b", times ", count as u64);
+    match kind {
+        1 => turns_on_sheet(sheet_of(load), count),
+        2 => turns_on_workspace(workspace_of(load), count),
+        3 => keeps_and_returns(workspace_of(load), &name, count),
+        4 => keeps(workspace_of(load), &name, count),
+        5 => lists(load, kind, count),
+        6 => lists(load, kind, count),
+        7 => refusals_on_sheet(sheet_of(load), count),
+        8 => refusals_on_workspace(workspace_of(load), count),
+        _ => text(b": no such kind\n"),
+    }
+}
+
+fn space() -> [u8; 512]
+    ensures { λ r. ⌜ 512 ≡ length r ⌝ }
+{
+    [0; 512]
+}
+
+fn main() {
+    let mut load = space();
+    let mut job = space();
+    let first = io::read_full(STDIN_FILENO, &mut load);
+    if first < 512 {
+        return;
+    }
+    let mut turns = u64::MAX;
+    while turns > 0 {
+        let n = io::read_full(STDIN_FILENO, &mut job);
+        if n < 512 {
+            return;
+        }
+        run(&load, &job);
+        turns -= 1;
+    }
+}
