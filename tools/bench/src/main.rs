@@ -1,11 +1,12 @@
-//! Times one load on both sides, a block's contents and a listing behind edits beside plain loops, and the lines that focusdesk answers in a
-//! second. Prints tables in Markdown.
-//! Usage: bench REPOSITORY, the folder that has crates/ and target/bin/focusdesk. With a KIND of loads behind it, which is named, recorded
-//! or refused, it times nothing: it answers those loads and prints how many calls that took, for tools/bench/count.
+//! Times one load on both sides, a block's contents, a listing behind edits and calls on a sheet or a workspace beside plain Rust, and the
+//! lines that focusdesk answers in a second. Prints tables in Markdown.
+//! Usage: bench REPOSITORY, the folder that has crates/, target/bin/focusdesk and target/bin/state_bench. With a KIND of loads behind it,
+//! which is named, recorded or refused, it times nothing: it answers those loads and prints how many calls that took, for tools/bench/count.
 
 mod blocks;
 mod contents;
 mod orientations;
+mod states;
 
 use std::env;
 use std::fs::{self, File};
@@ -102,6 +103,13 @@ fn program_time(program: &Path, script: &[u8]) -> Duration {
     time
 }
 
+/// What the program prints for this input.
+fn program_text(program: &Path, input: &[u8]) -> String {
+    let mut child = Command::new(program).stdin(Stdio::piped()).stdout(Stdio::piped()).spawn().unwrap();
+    child.stdin.take().unwrap().write_all(input).unwrap();
+    String::from_utf8(child.wait_with_output().unwrap().stdout).unwrap()
+}
+
 /// Microseconds for a listing by focusdesk behind orientations of these numbers.
 fn listing_time(program: &Path, numbers: &[u8]) -> f64 {
     const LISTS: usize = 20_000;
@@ -135,6 +143,46 @@ fn listing_row(program: &Path, none: f64, name: &str, numbers: &[u8]) -> f64 {
     let listing = listing_time(program, numbers);
     println!("| {name} | {listing:.1} | {:.1} | {plain:.1} | {:.1} |", listing - none, (listing - none) / plain);
     listing
+}
+
+/// Nanoseconds for each of so many calls that they take some tenths of a second, by the time that a number of them takes.
+fn nanoseconds_of(time: impl Fn(u32) -> Duration) -> f64 {
+    const FEW: u32 = 100_000;
+    let without = time(0);
+    let few = (time(FEW).saturating_sub(without)).as_secs_f64().max(1e-3);
+    let count = (FEW as f64 * 0.3 / few) as u32;
+    time(count).saturating_sub(without).as_secs_f64() * 1e9 / count as f64
+}
+
+/// One kind of calls on a state. Both sides must end alike, after one call and after some, before their times mean anything.
+fn state_row(program: &Path, load: &[u8], sheet: states::Sheet, (kind, name): (u8, &str)) {
+    let plain = |count| states::plain(sheet, kind, count, &mut [0; focuspoints::LISTING]);
+    for count in [1, 65] {
+        assert_eq!(plain(count), program_text(program, &states::job(load, kind, count)), "{name}");
+    }
+    let theirs = nanoseconds_of(|count| {
+        shortest(|| {
+            black_box(plain(black_box(count)));
+        })
+    });
+    let own = nanoseconds_of(|count| program_time(program, &states::job(load, kind, count)));
+    println!("| {name} | {theirs:.0} | {own:.0} | {:.1} |", own / theirs);
+}
+
+/// Calls on a sheet and on a workspace, each kind that state_bench has.
+fn states_table(root: &Path) {
+    let program = root.join("target/bin/state_bench");
+    let load = &fs::read(root.join("crates/state_bench/stdin")).unwrap()[..512];
+    let mut listing = [0; focuspoints::LISTING];
+    assert!(ours(&stored(&load[1..])[0], &mut listing));
+    let sheet = states::Sheet::of(&listing);
+    assert_eq!(states::listed_turned(sheet), listed_behind(&[6]));
+    let [small, large] = states::sizes();
+    println!("| call, the state handed on by value | a plain state in Rust, ns | here, ns | times as long |");
+    println!("|---|---|---|---|");
+    states::KINDS.iter().for_each(|&kind| state_row(&program, load, sheet, kind));
+    println!();
+    println!("The plain sheet has {small} bytes, the plain workspace {large}.");
 }
 
 fn main() {
@@ -185,6 +233,8 @@ fn main() {
     listing_row(&program, none, "64 of the eight orientations, one after the other", &[1, 2, 3, 4, 5, 6, 7, 8].repeat(8));
     println!();
     println!("Behind 64 turns a listing takes {:.2} times as long as behind 32.", full / half);
+    println!();
+    states_table(root);
     println!();
     let lines = fs::read(root.join("tools/oracle/stored/lines.txt")).unwrap().repeat(20);
     let count = lines.iter().filter(|&&c| c == b'\n').count();

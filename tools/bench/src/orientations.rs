@@ -3,9 +3,9 @@
 /// A point's center and area, and the frame that they are in, each across and then down.
 #[derive(Clone, Copy, Debug, PartialEq)]
 pub struct Carried {
-    frame: [u32; 2],
-    center: [u32; 2],
-    area: [u32; 2],
+    pub frame: [u32; 2],
+    pub center: [u32; 2],
+    pub area: [u32; 2],
 }
 
 /// The points of a listing's text.
@@ -22,7 +22,8 @@ pub fn plain(points: &[Carried], numbers: &[u8]) -> Vec<Carried> {
     points.iter().map(|&point| numbers.iter().fold(point, |from, &number| oriented(from, number))).collect()
 }
 
-fn oriented(Carried { frame: [w, h], center: [x, y], area: [a, b] }: Carried, number: u8) -> Carried {
+/// A point under the orientation of a number.
+pub fn oriented(Carried { frame: [w, h], center: [x, y], area: [a, b] }: Carried, number: u8) -> Carried {
     let upright = |center| Carried { frame: [w, h], center, area: [a, b] };
     let across = |center| Carried { frame: [h, w], center, area: [b, a] };
     match number {

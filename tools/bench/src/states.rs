@@ -1,0 +1,252 @@
+//! Calls made many times over on a state that is handed on by value, as one would write them in Rust: what those of state_bench are timed
+//! beside. The states have the sizes of its own, and no call is drawn into its caller.
+
+use std::hint::black_box;
+
+use crate::orientations::{Carried, oriented};
+
+/// What state_bench does once for each of its kinds, and how it is told. A state that comes later has its kinds here and in `plain`.
+pub const KINDS: [(u8, &str); 8] = [
+    (1, "a turn and a back, on a sheet"),
+    (2, "a turn and a back, on a workspace"),
+    (7, "a refused orientation, on a sheet"),
+    (8, "a refused orientation, on a workspace"),
+    (4, "a keep, on a workspace with eight names"),
+    (3, "a keep and a return, on a workspace with eight names"),
+    (5, "a list of 39 points behind a turn, on a sheet"),
+    (6, "a list of 39 points behind a turn, on a workspace"),
+];
+
+const TURN: u32 = 6;
+
+/// The points of a load, and the edits that stand, five words each.
+#[derive(Clone, Copy)]
+pub struct Sheet {
+    loaded: bool,
+    frame: [u32; 2],
+    points: [[u32; 6]; 39],
+    count: usize,
+    primary: usize,
+    mode: u32,
+    origin: u32,
+    edits: [u32; 320],
+    standing: usize,
+}
+
+impl Sheet {
+    /// The sheet of a listing as the library writes it: its head in six numbers, then six a point.
+    pub fn of(listing: &[u32]) -> Sheet {
+        let mut points = [[0; 6]; 39];
+        points.iter_mut().zip(listing[6..].chunks_exact(6)).for_each(|(place, point)| place.copy_from_slice(point));
+        let [width, height, count, primary, mode, origin] = listing[..6].try_into().unwrap();
+        Sheet {
+            loaded: true,
+            frame: [width, height],
+            points,
+            count: count as usize,
+            primary: primary as usize,
+            mode,
+            origin,
+            edits: [0; 320],
+            standing: 0,
+        }
+    }
+
+    fn is_usable(&self) -> bool {
+        self.loaded && self.count <= 39 && self.primary < self.count && self.standing <= 64
+    }
+
+    #[inline(never)]
+    fn orient(mut self, number: u32) -> (u32, Sheet) {
+        if !self.is_usable() {
+            return (7, self);
+        }
+        if self.standing == 64 {
+            return (8, self);
+        }
+        if !(1..=8).contains(&number) {
+            return (15, self);
+        }
+        let at = 5 * self.standing;
+        self.edits[at..at + 5].copy_from_slice(&[number, 0, 0, 0, 0]);
+        self.standing += 1;
+        (0, self)
+    }
+
+    #[inline(never)]
+    fn back(mut self) -> (u32, Sheet) {
+        if !self.is_usable() {
+            return (7, self);
+        }
+        if self.standing == 0 {
+            return (11, self);
+        }
+        self.standing -= 1;
+        (0, self)
+    }
+
+    /// Only orientations stand here.
+    #[inline(never)]
+    fn list(self, out: &mut [u32]) -> u32 {
+        if !self.is_usable() {
+            return 7;
+        }
+        if out.len() < 6 * self.count {
+            return 13;
+        }
+        for (&[number, x, y, width, height, focus], place) in self.points[..self.count].iter().zip(out.chunks_exact_mut(6)) {
+            let from = Carried { frame: self.frame, center: [x, y], area: [width, height] };
+            let to = self.edits.chunks_exact(5).take(self.standing).fold(from, |from, edit| oriented(from, edit[0] as u8));
+            place.copy_from_slice(&[number, to.center[0], to.center[1], to.area[0], to.area[1], focus]);
+        }
+        black_box((self.mode, self.origin));
+        0
+    }
+}
+
+#[derive(Clone, Copy)]
+struct Checkpoint {
+    name: [u8; 16],
+    len: usize,
+    edits: [u32; 320],
+    standing: usize,
+}
+
+/// A sheet, and the edits that are kept under at most eight names.
+#[derive(Clone, Copy)]
+struct Workspace {
+    sheet: Sheet,
+    checkpoints: [Checkpoint; 8],
+    count: usize,
+}
+
+impl Workspace {
+    fn new(sheet: Sheet) -> Workspace {
+        Workspace { sheet, checkpoints: [Checkpoint { name: [0; 16], len: 0, edits: [0; 320], standing: 0 }; 8], count: 0 }
+    }
+
+    fn place_of(&self, name: &[u8]) -> Option<usize> {
+        self.checkpoints[..self.count].iter().position(|kept| &kept.name[..kept.len] == name)
+    }
+
+    #[inline(never)]
+    fn orient(mut self, number: u32) -> (u32, Workspace) {
+        let (answer, sheet) = self.sheet.orient(number);
+        self.sheet = sheet;
+        (answer, self)
+    }
+
+    #[inline(never)]
+    fn back(mut self) -> (u32, Workspace) {
+        let (answer, sheet) = self.sheet.back();
+        self.sheet = sheet;
+        (answer, self)
+    }
+
+    #[inline(never)]
+    fn list(self, out: &mut [u32]) -> u32 {
+        self.sheet.list(out)
+    }
+
+    #[inline(never)]
+    fn keep(mut self, name: &[u8]) -> (u32, Workspace) {
+        if !self.sheet.is_usable() {
+            return (7, self);
+        }
+        if !(1..=16).contains(&name.len()) {
+            return (16, self);
+        }
+        let place = self.place_of(name).unwrap_or(self.count);
+        if place == 8 {
+            return (17, self);
+        }
+        let kept = &mut self.checkpoints[place];
+        kept.name[..name.len()].copy_from_slice(name);
+        kept.len = name.len();
+        kept.edits = self.sheet.edits;
+        kept.standing = self.sheet.standing;
+        self.count = self.count.max(place + 1);
+        (0, self)
+    }
+
+    #[inline(never)]
+    fn return_to(mut self, name: &[u8]) -> (u32, Workspace) {
+        if !self.sheet.is_usable() {
+            return (7, self);
+        }
+        if !(1..=16).contains(&name.len()) {
+            return (16, self);
+        }
+        let Some(place) = self.place_of(name) else {
+            return (18, self);
+        };
+        self.sheet.edits = self.checkpoints[place].edits;
+        self.sheet.standing = self.checkpoints[place].standing;
+        (0, self)
+    }
+}
+
+fn name_at(place: u8) -> [u8; 16] {
+    let mut name = [b'n'; 16];
+    name[15] = place;
+    name
+}
+
+/// What a call is answered, so many times over, at last; and the state that it leaves.
+fn over<State>(mut state: State, count: u32, mut once: impl FnMut(State) -> (u32, State)) -> (Option<u32>, State) {
+    let mut last = None;
+    for _ in 0..count {
+        let (answer, left) = once(state);
+        last = Some(answer);
+        state = left;
+    }
+    (last, state)
+}
+
+/// What state_bench prints for a job, by the plain states. `out` is where lists go.
+pub fn plain(sheet: Sheet, kind: u8, count: u32, out: &mut [u32]) -> String {
+    let sheet = sheet.orient(TURN).1;
+    let workspace = (0..8).fold(Workspace::new(sheet), |workspace, place| workspace.keep(&name_at(place)).1);
+    let name = name_at(7);
+    let on_sheet = |(last, sheet): (_, Sheet)| (last, sheet.standing);
+    let on_workspace = |(last, workspace): (_, Workspace)| (last, workspace.sheet.standing);
+    let (last, standing) = match kind {
+        1 => on_sheet(over(sheet, count, |sheet| sheet.orient(black_box(TURN)).1.back())),
+        2 => on_workspace(over(workspace, count, |workspace| workspace.orient(black_box(TURN)).1.back())),
+        3 => on_workspace(over(workspace, count, |workspace| workspace.keep(black_box(&name)).1.return_to(black_box(&name)))),
+        4 => on_workspace(over(workspace, count, |workspace| workspace.keep(black_box(&name)))),
+        5 => on_sheet(over(sheet, count, |sheet| (sheet.list(black_box(out)), sheet))),
+        6 => on_workspace(over(workspace, count, |workspace| (workspace.list(black_box(out)), workspace))),
+        7 => on_sheet(over(sheet, count, |sheet| sheet.orient(black_box(0)))),
+        8 => on_workspace(over(workspace, count, |workspace| workspace.orient(black_box(0)))),
+        _ => panic!("no kind {kind}"),
+    };
+    let answer = match last {
+        None => "none".to_string(),
+        Some(0) => "ok".to_string(),
+        Some(number) => format!("no {number}"),
+    };
+    format!("kind {kind}, times {count}: {answer}, standing {standing}\n")
+}
+
+/// Where a turn carries the sheet's points, by its list.
+pub fn listed_turned(sheet: Sheet) -> Vec<Carried> {
+    let mut out = vec![0; 6 * sheet.count];
+    assert_eq!(sheet.orient(TURN).1.list(&mut out), 0);
+    let frame = [sheet.frame[1], sheet.frame[0]];
+    out.chunks_exact(6).map(|point| Carried { frame, center: [point[1], point[2]], area: [point[3], point[4]] }).collect()
+}
+
+/// The sizes of the two states, in bytes.
+pub fn sizes() -> [usize; 2] {
+    [size_of::<Sheet>(), size_of::<Workspace>()]
+}
+
+/// A job for state_bench behind its load.
+pub fn job(load: &[u8], kind: u8, count: u32) -> Vec<u8> {
+    let mut input = load.to_vec();
+    input.push(kind);
+    input.extend(count.to_be_bytes());
+    input.resize(2 * load.len(), 0);
+    input
+}
