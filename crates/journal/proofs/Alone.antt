@@ -2,7 +2,7 @@
 -- reached by a sheet's calls alone, as is what it would hold with any of the kept edits standing (`Reached`): by induction over the calls.
 -- So what is said of a sheet after calls holds of it. Assumes nothing.
 use Prim.Native.Nat.{ℕ}
-use mathlib.Core.Bool.{Bool, true, false, _&&_, cond}
+use mathlib.Core.Bool.{Bool, true, false, cond}
 use mathlib.Core.List.{List, [], _∷_, _++_, map}
 use mathlib.Core.Option.{Option, none, some}
 use mathlib.Core.Path.{_≡_, refl, sym, ap, ap₂, _∙_}
@@ -11,17 +11,17 @@ use Rattle.reading.specs.Outcome.{Outcome, refused, accepted, isAccepted}
 use Rattle.placing.specs.Focus.{focusOf}
 use Rattle.placing.specs.Load.{Focus}
 use Rattle.sheet.specs.declared.Sheet.{Sheet}
-use Rattle.sheet.specs.Sheet.{freshSheet, loadSheet}
+use Rattle.sheet.specs.Sheet.{loadSheet}
 use Rattle.workspace.specs.declared.Workspace.{Workspace}
 use Rattle.workspace.specs.Names.{isBadName}
 use Rattle.workspace.specs.Workspace.{withoutNames, freshWorkspace, loadIn, isCounted, editIn, listOutcomeIn, listBufferIn, fitOutcomeIn, fitBufferIn}
-use Rattle.journal.specs.Journal.{Change, Journal, empty, holds, Answer, no, ok, ended, changeRefusal, backRefusal, journalLoad, journalChange, journalBack}
-use Rattle.journal.specs.Calls.{Call, load, change, back, list, fit, isLoad, journalStep, journalAfter}
+use Rattle.journal.specs.Journal.{Change, Journal, empty, holds, Answer, no, ended, changeRefusal, backRefusal, journalLoad, journalChange, journalBack}
+use Rattle.journal.specs.Calls.{Call, load, change, back, list, fit, journalStep, journalAfter}
 use Rattle.journal.specs.SheetCalls.{afterEdit, sheetStep, runSheet}
 use Rattle.journal.specs.Claim.{after}
-use Rattle.journal.specs.WorkspaceJournal.{Kept, WorkspaceJournal, with, emptyIn, keptUnder, keepUnder, isNinth, WorkspaceCall, onSheet, keep, return, namesAfter, journalSheet, keepRefusal, journalKeep, backTo, journalReturn, journalStepIn, journalAfterIn}
+use Rattle.journal.specs.WorkspaceJournal.{Kept, WorkspaceJournal, with, emptyIn, keptUnder, keepUnder, WorkspaceCall, onSheet, keep, return, namesAfter, journalSheet, keepRefusal, journalKeep, backTo, journalReturn, journalStepIn, journalAfterIn}
 use Rattle.journal.specs.WorkspaceCalls.{sheetStepIn, workspaceStep, runWorkspace}
-use Rattle.journal.specs.WorkspaceClaim.{afterIn, SheetAlone, AsSheet, AsSomeSheet, PrimaryIsListedIn, ListsExactlyIn}
+use Rattle.journal.specs.WorkspaceClaim.{SheetAlone, AsSomeSheet, PrimaryIsListedIn, ListsExactlyIn}
 use Rattle.journal.proofs.Answers.{answers, after-append}
 use Rattle.journal.proofs.Shown.{lists-exactly, primary-is-listed}
 use Rattle.journal.proofs.WorkspaceAgrees.{answers-in}

@@ -1,10 +1,10 @@
 -- The places of a workspace beside the names of its journal: one walk along the places in use gives the place of a name, what is kept
 -- under it, and what a keep makes of the list. Assumes nothing.
-use Prim.Native.Nat.{ℕ, zero, suc, _+_, _<_, _≤_}
-use mathlib.Core.Bool.{Bool, true, false, _&&_, cond}
+use Prim.Native.Nat.{ℕ, zero, suc, _<_, _≤_}
+use mathlib.Core.Bool.{Bool, true, false, cond}
 use mathlib.Core.List.{List, [], _∷_, _++_, map}
-use mathlib.Core.Option.{Option, none, some}
-use mathlib.Core.Path.{_≡_, refl, sym, ap, _∙_}
+use mathlib.Core.Option.{none, some}
+use mathlib.Core.Path.{_≡_, refl, sym, ap}
 use lib.ListN.{getD, length, take, set, replicate}
 use lib.Seq.{take-append-seam}
 use native.Mathlib.Omega.{arith}
@@ -13,7 +13,6 @@ use Rattle.numbers.specs.Bytes.{same}
 use Rattle.workspace.specs.declared.Checkpoint.{Checkpoint}
 use Rattle.workspace.specs.Names.{inPlaces, isNamed}
 use Rattle.workspace.specs.Workspace.{noCheckpoint, blankCheckpoint, placeIn}
-use Rattle.journal.specs.Journal.{Change}
 use Rattle.journal.specs.WorkspaceJournal.{Kept, keptUnder, keepUnder}
 use Rattle.journal.proofs.Placed.{rowAt}
 

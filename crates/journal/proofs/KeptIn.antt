@@ -1,7 +1,7 @@
 -- On every workspace, also one made by hand: a refused call leaves it, its names and the buffer as they were, by the cases of each
 -- definition's tests; a load goes on as the journal says, by the claim; and one whose count passes its places is empty to every other
 -- call. Assumes nothing.
-use Prim.Native.Nat.{ℕ, _<_}
+use Prim.Native.Nat.{ℕ}
 use mathlib.Core.Bool.{Bool, true, false, _&&_, cond, false≢true}
 use mathlib.Core.List.{List, [], _∷_}
 use mathlib.Core.Logic.{_⊎_, inl, inr}
@@ -16,12 +16,12 @@ use Rattle.sheet.specs.Sheet.{leaves, keptBy, usable}
 use Rattle.workspace.specs.declared.Workspace.{Workspace}
 use Rattle.workspace.specs.Names.{isBadName}
 use Rattle.workspace.specs.Workspace.{freshWorkspace, loadIn, withSheet, isCounted, editIn, listOutcomeIn, listBufferIn, fitOutcomeIn, fitBufferIn, ifNamed, placeOf, keepAt, keepIn, returnAt, returnIn}
-use Rattle.journal.specs.Journal.{Answer, no, ok, journalLoad}
+use Rattle.journal.specs.Journal.{Answer, journalLoad}
 use Rattle.journal.specs.Calls.{Call, load, change, back, list, fit, lent, journalStep}
 use Rattle.journal.specs.SheetCalls.{afterEdit, sheetStep}
 use Rattle.journal.specs.WorkspaceJournal.{WorkspaceCall, onSheet, keep, return, lentIn, journalSheet, journalStepIn, runJournalIn}
 use Rattle.journal.specs.WorkspaceCalls.{sheetStepIn, workspaceStep, runWorkspace}
-use Rattle.journal.specs.WorkspaceClaim.{RefusedKeepsIn, LoadOnAnyIn, isLoadIn, UncountedIsEmpty}
+use Rattle.journal.specs.WorkspaceClaim.{RefusedKeepsIn, LoadOnAnyIn, UncountedIsEmpty}
 use Rattle.journal.proofs.Kept.{refused-keeps}
 use Rattle.journal.proofs.WorkspaceAgrees.{workspace-claim}
 

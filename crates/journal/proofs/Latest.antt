@@ -4,7 +4,7 @@ use Prim.Native.Nat.{ℕ}
 use mathlib.Core.Bool.{Bool, true, false, _&&_, cond, false≢true}
 use mathlib.Core.List.{List, [], _∷_, _++_, append-nil}
 use mathlib.Core.Option.{Option, none, some}
-use mathlib.Core.Path.{_≡_, refl, sym, ap, ap₂, subst, _∙_}
+use mathlib.Core.Path.{_≡_, refl, sym, ap, ap₂, _∙_}
 use lib.Dec.{eqb}
 use lib.Seq.{append-snoc}
 use borrow.Author.Tests.{eqb-true, eq-eqb}
@@ -17,7 +17,7 @@ use Rattle.workspace.specs.Names.{isBadName}
 use Rattle.journal.specs.Journal.{Change, Journal, empty, holds, Answer, no, ok, ended, changeRefusal, backRefusal, journalLoad, journalChange, journalBack}
 use Rattle.journal.specs.Calls.{Call, load, change, back, list, fit, isLoad, journalStep}
 use Rattle.journal.specs.WorkspaceJournal.{Kept, WorkspaceJournal, with, emptyIn, keptUnder, keepUnder, isNinth, WorkspaceCall, onSheet, keep, return, namesAfter, journalSheet, keepRefusal, journalKeep, backTo, journalReturn, journalStepIn, journalAfterIn}
-use Rattle.journal.specs.WorkspaceClaim.{afterIn, answerIn, latestBy, latestFrom, latestKeep, ComesBack, ReturnsToLatest, NoKeepNoReturn}
+use Rattle.journal.specs.WorkspaceClaim.{afterIn, latestBy, latestFrom, latestKeep, ReturnsToLatest, NoKeepNoReturn}
 use Rattle.journal.proofs.WorkspaceAgrees.{answers-in}
 
 pub after-snoc : (w : WorkspaceJournal) (cs : List WorkspaceCall) (c : WorkspaceCall) → journalAfterIn w (cs ++ c ∷ []) ≡ journalStepIn (journalAfterIn w cs) c .1

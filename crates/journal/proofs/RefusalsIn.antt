@@ -1,23 +1,21 @@
 -- A workspace's call is refused exactly when its refusals say: the sheet's calls by proofs/Refusals.antt, keep and return by the cases of
 -- their tests, both ways. Assumes nothing.
-use Prim.Native.Nat.{ℕ, _<_, _≤_}
-use mathlib.Core.Bool.{Bool, true, false, _&&_, _||_, not, cond, false≢true}
+use Prim.Native.Nat.{ℕ, _≤_}
+use mathlib.Core.Bool.{Bool, true, false, _||_, not, cond, false≢true}
 use mathlib.Core.List.{List, []}
-use mathlib.Core.Logic.{_⊎_, inl, inr}
+use mathlib.Core.Logic.{inl, inr}
 use mathlib.Core.Option.{Option, none, some}
-use mathlib.Core.Path.{_≡_, refl, sym, ap, subst, _∙_}
+use mathlib.Core.Path.{_≡_, refl, subst}
 use lib.Dec.{leb, ltb, eqb}
 use lib.ListN.{length}
 use native.Mathlib.Omega.{arith}
 use borrow.Author.Tests.{lt-ltb, le-ltb, le-leb, eq-eqb, ne-eqb, ltb-true, ltb-false, leb-true, eqb-true, eqb-false}
 use Rattle.laws.proofs.Tests.{neither, both, or-first, or-second}
-use Rattle.reading.specs.Outcome.{Outcome, refused, accepted}
-use Rattle.placing.specs.Load.{Focus}
+use Rattle.reading.specs.Outcome.{Outcome, refused}
 use Rattle.workspace.specs.Names.{isBadName}
-use Rattle.journal.specs.Journal.{Change, Journal, empty, holds, Answer, no, ok, ended}
-use Rattle.journal.specs.Calls.{Call, journalStep}
+use Rattle.journal.specs.Journal.{Change, Journal, empty, holds, no, ended}
 use Rattle.journal.specs.WorkspaceJournal.{Kept, WorkspaceJournal, with, keptUnder, keepUnder, isKept, isNinth, WorkspaceCall, onSheet, keep, return, journalSheet, keepRefusal, journalKeep, backTo, journalReturn, journalStepIn}
-use Rattle.journal.specs.WorkspaceClaim.{afterIn, answerIn, BadName, GoodName, RefusesIn, ofSheet, emptyKeep, emptyReturn, badKeep, badReturn, ninth, noSuchName, RefusedExactlyIn}
+use Rattle.journal.specs.WorkspaceClaim.{afterIn, BadName, GoodName, RefusesIn, ofSheet, emptyKeep, emptyReturn, badKeep, badReturn, ninth, noSuchName, RefusedExactlyIn}
 use Rattle.journal.proofs.Refusals.{never, told, says}
 use Rattle.journal.proofs.WorkspaceAgrees.{answers-in}
 

@@ -2,17 +2,17 @@
 -- `Places` are there, its count in range. What the sheet answers is proofs/Claim.antt's; load, keep and return add the names. Then by
 -- induction over the list. Assumes nothing.
 use Prim.Native.Nat.{ℕ, _+_, _<_, _≤_}
-use mathlib.Core.Bool.{Bool, true, false, _&&_, _||_, not, cond}
+use mathlib.Core.Bool.{Bool, true, false, cond}
 use mathlib.Core.List.{List, [], _∷_, _++_, map}
 use mathlib.Core.Logic.{_⊎_, inl, inr}
-use mathlib.Core.Option.{Option, none, some}
+use mathlib.Core.Option.{none, some}
 use mathlib.Core.Path.{_≡_, refl, sym, ap, ap₂, _∙_}
-use lib.Dec.{leb, ltb, eqb}
-use lib.ListN.{getD, length, take, set, replicate, length-map, length-set}
+use lib.Dec.{leb, ltb}
+use lib.ListN.{getD, length, take, set, length-map, length-set}
 use lib.Seq.{length-take-le, take-set-lt, take-suc-set, getD-take}
 use native.Mathlib.Omega.{arith}
 use native.Mathlib.Numerals.{add-one}
-use borrow.Author.Tests.{lt-ltb, le-ltb, le-leb, lt-leb, ltb-false}
+use borrow.Author.Tests.{lt-ltb, le-ltb, le-leb, lt-leb}
 use Rattle.laws.proofs.Tests.{by-order}
 use Rattle.reading.specs.Outcome.{Outcome, refused, accepted, isAccepted}
 use Rattle.placing.specs.Focus.{focusOf}
@@ -20,13 +20,13 @@ use Rattle.placing.specs.Load.{Focus}
 use Rattle.placing.specs.Sound.{Sound}
 use Rattle.placing.proofs.Sound.{focus-sound}
 use Rattle.sheet.specs.declared.Sheet.{Sheet}
-use Rattle.sheet.specs.Sheet.{leaves, keptBy, freshSheet, loadedSheet, loadSheet, usable, withEdits}
+use Rattle.sheet.specs.Sheet.{leaves, keptBy, freshSheet, loadedSheet, loadSheet}
 use Rattle.workspace.specs.declared.Checkpoint.{Checkpoint}
 use Rattle.workspace.specs.declared.Workspace.{Workspace}
 use Rattle.workspace.specs.Names.{isBadName}
-use Rattle.workspace.specs.Workspace.{noCheckpoint, blankCheckpoint, withoutNames, freshWorkspace, loadIn, withSheet, isCounted, editIn, listOutcomeIn, listBufferIn, fitOutcomeIn, fitBufferIn, ifNamed, placeOf, checkpointOf, keepAt, keepIn, returnAt, returnIn}
+use Rattle.workspace.specs.Workspace.{noCheckpoint, withoutNames, freshWorkspace, loadIn, withSheet, isCounted, editIn, listOutcomeIn, listBufferIn, fitOutcomeIn, fitBufferIn, ifNamed, placeOf, checkpointOf, keepAt, keepIn, returnAt, returnIn}
 use Rattle.workspace.proofs.Tests.{name-fits}
-use Rattle.journal.specs.Journal.{Change, Journal, empty, holds, Answer, no, ok, ended, journalLoad}
+use Rattle.journal.specs.Journal.{Journal, holds, Answer, no, ok, ended, journalLoad}
 use Rattle.journal.specs.Calls.{Call, load, change, back, list, fit, journalStep}
 use Rattle.journal.specs.SheetCalls.{afterEdit, sheetStep}
 use Rattle.journal.specs.WorkspaceJournal.{Kept, WorkspaceJournal, with, emptyIn, keptUnder, keepUnder, isNinth, WorkspaceCall, onSheet, keep, return, journalSheet, keepRefusal, journalKeep, backTo, journalReturn, journalStepIn, runJournalIn, journalAfterIn}

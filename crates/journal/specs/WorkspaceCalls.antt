@@ -1,8 +1,6 @@
 -- Lists of calls on a workspace, by the definitions that its contracts promise.
-use Prim.Native.Nat.{ℕ}
 use mathlib.Core.List.{List, [], _∷_}
 use lib.ListN.{length}
-use Rattle.reading.specs.Outcome.{Outcome}
 use Rattle.placing.specs.Focus.{focusOf}
 use Rattle.sheet.specs.Sheet.{backSheet}
 use Rattle.workspace.specs.declared.Workspace.{Workspace}
