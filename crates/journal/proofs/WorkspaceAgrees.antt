@@ -2,10 +2,10 @@
 -- `Places` are there, its count in range. What the sheet answers is proofs/Claim.antt's; load, keep and return add the names. Then by
 -- induction over the list. Assumes nothing.
 use Prim.Native.Nat.{ℕ, _+_, _<_, _≤_}
-use mathlib.Core.Bool.{Bool, true, false, cond}
+use mathlib.Core.Bool.{Bool, true, false, _&&_, not, cond}
 use mathlib.Core.List.{List, [], _∷_, _++_, map}
 use mathlib.Core.Logic.{_⊎_, inl, inr}
-use mathlib.Core.Option.{none, some}
+use mathlib.Core.Option.{Option, none, some}
 use mathlib.Core.Path.{_≡_, refl, sym, ap, ap₂, _∙_}
 use lib.Dec.{leb, ltb}
 use lib.ListN.{getD, length, take, set, length-map, length-set}
@@ -26,10 +26,10 @@ use Rattle.workspace.specs.declared.Workspace.{Workspace}
 use Rattle.workspace.specs.Names.{isBadName}
 use Rattle.workspace.specs.Workspace.{noCheckpoint, withoutNames, freshWorkspace, loadIn, withSheet, isCounted, editIn, listOutcomeIn, listBufferIn, fitOutcomeIn, fitBufferIn, ifNamed, placeOf, checkpointOf, keepAt, keepIn, returnAt, returnIn}
 use Rattle.workspace.proofs.Tests.{name-fits}
-use Rattle.journal.specs.Journal.{Journal, holds, Answer, no, ok, ended, journalLoad}
+use Rattle.journal.specs.Journal.{Change, Journal, holds, Answer, no, ok, ended, journalLoad}
 use Rattle.journal.specs.Calls.{Call, load, change, back, list, fit, journalStep}
 use Rattle.journal.specs.SheetCalls.{afterEdit, sheetStep}
-use Rattle.journal.specs.WorkspaceJournal.{Kept, WorkspaceJournal, with, emptyIn, keptUnder, keepUnder, isNinth, WorkspaceCall, onSheet, keep, return, journalSheet, keepRefusal, journalKeep, backTo, journalReturn, journalStepIn, runJournalIn, journalAfterIn}
+use Rattle.journal.specs.WorkspaceJournal.{Kept, WorkspaceJournal, with, emptyIn, keptUnder, keepUnder, isKept, isNinth, WorkspaceCall, onSheet, keep, return, journalSheet, keepRefusal, journalKeep, backTo, journalReturn, journalStepIn, runJournalIn, journalAfterIn}
 use Rattle.journal.specs.WorkspaceCalls.{sheetStepIn, workspaceStep, runWorkspace, workspaceAfter}
 use Rattle.journal.specs.WorkspaceClaim.{WorkspaceClaim, afterIn, answerIn, EightAtMost}
 use Rattle.journal.proofs.Claim.{loadOf, rowOf, journalOf, Held, Good, blank, held, usable-held, usable-blank, journal-held, journal-blank, loads, step}
@@ -65,6 +65,16 @@ refuses w g p n j e = (refl, ap (λ (k : Journal). with k (namesOf w)) e, g, p)
 
 in-use-length : (w : Workspace) → Places w → length (inUse w) ≡ w .count
 in-use-length w p = length-take-le (w .count) (w .checkpoints) (omega (arith, p .counted, p .placed))
+
+-- a name that is kept is no ninth; another is, where eight are kept
+module _ (name : List ℕ) (ks : List Kept) where
+  kept-no-ninth : (edits : List Change) → keptUnder name ks ≡ some edits → isNinth name ks ≡ false
+  unfolding isNinth
+  kept-no-ninth edits e = ap (λ (o : Option (List Change)). not (isKept o) && leb 8 (length ks)) e
+
+  new-is-ninth : keptUnder name ks ≡ none → isNinth name ks ≡ leb 8 (length ks)
+  unfolding isNinth
+  new-is-ninth e = ap (λ (o : Option (List Change)). not (isKept o) && leb 8 (length ks)) e
 
 -- ---- keep and return on a loaded sheet
 -- the journal before, and after a keep
@@ -132,15 +142,15 @@ module _ (w : Workspace) (h : Held (w .sheet)) (p : Places w) (name : List ℕ) 
     keep-found : (at : ℕ) → Found name (inUse w) at
         → AgreeIn (afterEdit (cond (ltb at 8) (leaves (keepAt w name at)) (keptBy 17 w)))
         (ended (cond (isNinth name (namesOf w)) (some 17) none) (before w) (keptIn w name))
-    unfolding isNinth checkpointOf
+    unfolding checkpointOf
     keep-found at (there a r s) =
         let i : at < w .count = omega (arith, a, in-use-length w p) in
-        rw (r, lt-ltb at 8 (omega (arith, i, p .counted)))
+        rw (kept-no-ninth name (namesOf w) _ r, lt-ltb at 8 (omega (arith, i, p .counted)))
         (kept-again at i (s (checkpointOf (w .sheet) name) new-name))
     keep-found at (absent e r s) =
         let c : at ≡ w .count = e ∙ in-use-length w p in
         let long : length (namesOf w) ≡ at = length-map (inUse w) keptOf ∙ sym e in
-        rw (r, long) (by c (by-order at 8))
+        rw (new-is-ninth name (namesOf w) r, long) (by c (by-order at 8))
       where
         by : at ≡ w .count → (at < 8) ⊎ (8 ≤ at)
             → AgreeIn (afterEdit (cond (ltb at 8) (leaves (keepAt w name at)) (keptBy 17 w)))
