@@ -45,7 +45,7 @@ use Rattle.journal.proofs.Carry.{but-last}
 use Rattle.journal.proofs.Placed.{changeOf, pointOf, rowAt, row-count, row-kept, placed-frame, placed-more, placed-point, listed-to-is, flat-numbers}
 
 -- ---- the journal that a sheet stands for
-abbrev loadOf : Sheet → Focus
+abbrev pub loadOf : Sheet → Focus
 loadOf s =
     record {
       frame = s .frame;
@@ -55,42 +55,42 @@ loadOf s =
       origin = s .origin;
     }
 
-abbrev rowOf : Sheet → List Change
+abbrev pub rowOf : Sheet → List Change
 rowOf s = rowAt (s .edits) (s .standing)
 
-abbrev journalOf : Sheet → Journal
+abbrev pub journalOf : Sheet → Journal
 journalOf s = cond (s .loaded) (holds (loadOf s) (rowOf s)) empty
 
 -- what holds of a sheet after calls
-record Held (s : Sheet) : Type 0 where
-  loaded : s .loaded ≡ true
-  counted : s .count ≤ 39
-  primed : s .primary < s .count
-  stands : s .standing ≤ 64
-  filled : length (s .points) ≡ 39
-  worded : length (s .edits) ≡ 320
+pub record Held (s : Sheet) : Type 0 where
+  pub loaded : s .loaded ≡ true
+  pub counted : s .count ≤ 39
+  pub primed : s .primary < s .count
+  pub stands : s .standing ≤ 64
+  pub filled : length (s .points) ≡ 39
+  pub worded : length (s .edits) ≡ 320
 
-data Good (s : Sheet) : Type 0 where
+pub data Good (s : Sheet) : Type 0 where
   blank : s .loaded ≡ false → Good s
   held : Held s → Good s
 
 -- how a call ends on a sheet, beside how it ends on a journal
-abbrev Agree : Answer × Sheet → Answer × Journal → Type 0
+abbrev pub Agree : Answer × Sheet → Answer × Journal → Type 0
 Agree r o = (r .0 ≡ o .0) × (journalOf (r .1) ≡ o .1) × Good (r .1)
 
-usable-held : (s : Sheet) → Held s → usable s ≡ true
+pub usable-held : (s : Sheet) → Held s → usable s ≡ true
 unfolding usable
 usable-held s h =
     rw (h .loaded, le-leb (s .count) 39 (h .counted), lt-ltb (s .primary) (s .count) (h .primed), le-leb (s .standing) 64 (h .stands))
 
-usable-blank : (s : Sheet) → s .loaded ≡ false → usable s ≡ false
+pub usable-blank : (s : Sheet) → s .loaded ≡ false → usable s ≡ false
 unfolding usable
 usable-blank s e = rw e
 
-journal-held : (s : Sheet) → Held s → journalOf s ≡ holds (loadOf s) (rowOf s)
+pub journal-held : (s : Sheet) → Held s → journalOf s ≡ holds (loadOf s) (rowOf s)
 journal-held s h = rw (h .loaded)
 
-journal-blank : (s : Sheet) → s .loaded ≡ false → journalOf s ≡ empty
+pub journal-blank : (s : Sheet) → s .loaded ≡ false → journalOf s ≡ empty
 journal-blank s e = rw e
 
 -- ---- a refused call, and one edit more
@@ -285,7 +285,7 @@ fits s h box b =
     by false = writes s h box ps b (length-map (listing (loadOf s) (rowOf s)) (λ p. scaledPoint p (presentFrame (loadOf s) (rowOf s)) box))
 
 -- ---- load
-loads : (s : Sheet) (g : Good s) (o : Outcome Focus) → Sound o → Agree (afterEdit (loadSheet s o)) (journalLoad (journalOf s) o)
+pub loads : (s : Sheet) (g : Good s) (o : Outcome Focus) → Sound o → Agree (afterEdit (loadSheet s o)) (journalLoad (journalOf s) o)
 unfolding loadSheet loadedSheet journalLoad
 loads s g (refused n) d = (refl, refl, g)
 loads s g (accepted f) d = (
@@ -303,7 +303,7 @@ loads s g (accepted f) d = (
 )
 
 -- ---- any call
-abbrev AgreeAt : Sheet → Call → Type 0
+abbrev pub AgreeAt : Sheet → Call → Type 0
 AgreeAt s c = Agree (sheetStep s c) (journalStep (journalOf s) c)
 
 blank-step : (s : Sheet) (e : s .loaded ≡ false) (c : Call) → AgreeAt s c
@@ -325,7 +325,7 @@ held-step s h back = rw (journal-held s h) (backs s h)
 held-step s h (list b) = rw (journal-held s h) (lists s h b, refl, held h)
 held-step s h (fit box b) = rw (journal-held s h) (fits s h box b, refl, held h)
 
-step : (s : Sheet) (g : Good s) (c : Call) → AgreeAt s c
+pub step : (s : Sheet) (g : Good s) (c : Call) → AgreeAt s c
 step s (blank e) c = blank-step s e c
 step s (held h) c = held-step s h c
 

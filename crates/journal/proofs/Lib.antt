@@ -10,3 +10,9 @@ pub mod Refusals
 pub mod Laws
 pub mod Orientations
 pub mod Example
+pub mod CheckpointPlaces
+pub mod WorkspaceAgrees
+pub mod Latest
+pub mod Alone
+pub mod RefusalsIn
+pub mod KeptIn

@@ -19,8 +19,8 @@ use Rattle.laws.proofs.Tests.{neither, or-first, or-second}
 use Rattle.placing.specs.Focus.{focusOf}
 use Rattle.placing.specs.Load.{Focus}
 use Rattle.journal.specs.Journal.{Change, cut, orient, Journal, empty, holds, stillListed, presentFrame, listing, primaryAfter, fitted, Answer, no, ok, ended, isBadCut, isOutside, ownRefusal, changeRefusal, backRefusal, journalLoad, journalChange, journalBack, head, numbers, written, journalList, journalFit}
-use Rattle.journal.specs.Calls.{Call, load, change, back, list, fit, lent, journalStep, journalAfter}
-use Rattle.journal.specs.Claim.{after, newest, lastFrom, heldLoad, HoldsLastLoad, isLoad, EmptyBefore, BadCut, GoodCut, Refuses, notLoaded, isEmpty, full, badCut, dropsPrimary, outside, nothingStands, zeroBox, short, shortFit, RefusedExactly}
+use Rattle.journal.specs.Calls.{Call, load, change, back, list, fit, lent, isLoad, journalStep, journalAfter}
+use Rattle.journal.specs.Claim.{after, newest, lastFrom, heldLoad, HoldsLastLoad, EmptyBefore, BadCut, GoodCut, Refuses, notLoaded, isEmpty, full, badCut, dropsPrimary, outside, nothingStands, zeroBox, short, shortFit, RefusedExactly}
 use Rattle.journal.proofs.Answers.{answers}
 use Rattle.journal.proofs.Fitted.{fitted-length}
 
@@ -64,7 +64,7 @@ no-load : (j : Journal) → heldLoad j ≡ none → j ≡ empty
 no-load empty e = refl
 no-load (holds f row) e = let z : _≡_ {A = ℕ} 0 1 = cc in absurd (omega arith)
 
-empty-seven : (c : Call) → isLoad c ≡ false → journalStep empty c .0 ≡ no 7 (lent c)
+pub empty-seven : (c : Call) → isLoad c ≡ false → journalStep empty c .0 ≡ no 7 (lent c)
 unfolding journalStep journalChange journalBack journalList journalFit
 empty-seven (load block raw picture model) e = absurd (false≢true (sym e))
 empty-seven (change c) e = refl
@@ -83,7 +83,7 @@ same-number {j} {c} {m} {n} r e = let q : m ≡ n = cc in subst (λ (k : ℕ). R
 some-number : {j : Journal} {c : Call} {m n : ℕ} → Refuses j c m → _≡_ {A = Option ℕ} (some m) (some n) → Refuses j c n
 some-number {j} {c} {m} {n} r e = let q : m ≡ n = cc in subst (λ (k : ℕ). Refuses j c k) q r
 
-never : (given : List ℕ) (n : ℕ) → _≡_ {A = Outcome (List ℕ)} (accepted given) (refused n) → ⊥
+pub never : (given : List ℕ) (n : ℕ) → _≡_ {A = Outcome (List ℕ)} (accepted given) (refused n) → ⊥
 never given n e = let z : _≡_ {A = ℕ} 0 1 = cc in omega arith
 
 no-number : (n : ℕ) → _≡_ {A = Option ℕ} none (some n) → ⊥
@@ -220,7 +220,7 @@ fit-told f row box b n e = by (hasZeroSide box) refl e
         written-told f row box (fitted f row box) b (fit box b) n
         (λ l. shortFit p (omega (arith, fitted-length f row box))) y
 
-told : (j : Journal) (c : Call) (n : ℕ) → journalStep j c .0 .outcome ≡ refused n → Refuses j c n
+pub told : (j : Journal) (c : Call) (n : ℕ) → journalStep j c .0 .outcome ≡ refused n → Refuses j c n
 unfolding journalStep journalChange journalBack journalList
 told j (load block raw picture model) n e = load-told j block raw picture model n (focusOf block raw picture model) refl e
 told empty (change c) n e = same-number (isEmpty refl) e
@@ -234,7 +234,7 @@ told empty (fit box b) n e = same-number (isEmpty refl) (rw (empty-seven (fit bo
 told (holds f row) (fit box b) n e = fit-told f row box b n e
 
 -- ---- and a number that applies is answered
-says : {j : Journal} {c : Call} {n : ℕ} → Refuses j c n → journalStep j c .0 .outcome ≡ refused n
+pub says : {j : Journal} {c : Call} {n : ℕ} → Refuses j c n → journalStep j c .0 .outcome ≡ refused n
 unfolding journalStep journalLoad journalChange changeRefusal journalBack backRefusal journalList journalFit written
 says (notLoaded e) = rw e
 says (isEmpty {c = c} l) = ap (λ (a : Answer). a .outcome) (empty-seven c l)

@@ -1,5 +1,6 @@
 -- Lists of calls, and what the journal answers to them. Of the sheet nothing is said here.
 use Prim.Native.Nat.{ℕ}
+use mathlib.Core.Bool.{Bool, true, false}
 use mathlib.Core.List.{List, [], _∷_}
 use Rattle.reading.specs.declared.geometry.Size.{Size}
 use Rattle.reading.specs.declared.geometry.OptionalSize.{OptionalSize}
@@ -25,6 +26,13 @@ lent (change c) = []
 lent back = []
 lent (list buffer) = buffer
 lent (fit box buffer) = buffer
+
+abbrev pub isLoad : Call → Bool
+isLoad (load block raw picture model) = true
+isLoad (change c) = false
+isLoad back = false
+isLoad (list buffer) = false
+isLoad (fit box buffer) = false
 
 -- how a call ends, and the journal after it
 unfoldable pub journalStep : Journal → Call → Answer × Journal

@@ -19,7 +19,7 @@ use Rattle.placing.specs.Load.{Focus, noPoint}
 use Rattle.sheet.specs.declared.Sheet.{Sheet}
 use Rattle.sheet.specs.Sheet.{freshSheet}
 use Rattle.journal.specs.Journal.{Change, cut, orient, Journal, empty, holds, frameBy, pointBy, staysListed, presentFrame, listing, primaryIndex, primaryOf, primaryAfter, fitted, Answer, no, ok, numbers, head}
-use Rattle.journal.specs.Calls.{Call, load, change, back, list, fit, lent, runJournal, journalAfter}
+use Rattle.journal.specs.Calls.{Call, load, change, back, list, fit, lent, isLoad, runJournal, journalAfter}
 use Rattle.journal.specs.SheetCalls.{sheetStep, runSheet, sheetAfter}
 
 -- "Demand 3 is a single claim about a whole list of calls. .. The list starts from the fresh sheet, which is empty. .. Each call of
@@ -59,13 +59,6 @@ heldLoad (holds f standing) = some f
 -- the journal holds the last accepted load
 abbrev pub HoldsLastLoad : Type 0
 HoldsLastLoad = (calls : List Call) → heldLoad (after calls) ≡ lastLoad calls
-
-abbrev pub isLoad : Call → Bool
-isLoad (load block raw picture model) = true
-isLoad (change c) = false
-isLoad back = false
-isLoad (list buffer) = false
-isLoad (fit box buffer) = false
 
 -- before an accepted load the sheet is empty: any call but a load is refused by 7
 abbrev pub EmptyBefore : Type 0

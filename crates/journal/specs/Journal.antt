@@ -168,7 +168,7 @@ journalLoad j (accepted load) = (ok [] [], holds load [])
 
 -- "Any other call is judged by its numbers, from what the book holds. A refused call leaves the book as it is.": the lowest
 -- number that applies, if there is one, and the journals before and after
-abbrev pub ended : Option ℕ → Journal → Journal → Answer × Journal
+abbrev pub ended : {A : Type 0} → Option ℕ → A → A → Answer × A
 ended (some n) before after = (no n [], before)
 ended none before after = (ok [] [], after)
 

@@ -4,3 +4,6 @@ pub mod SheetCalls
 pub mod Claim
 pub mod Laws
 pub mod Example
+pub mod WorkspaceJournal
+pub mod WorkspaceCalls
+pub mod WorkspaceClaim

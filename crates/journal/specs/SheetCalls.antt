@@ -10,12 +10,12 @@ use Rattle.sheet.specs.Lists.{listOutcome, listBuffer, fitOutcome, fitBuffer}
 use Rattle.journal.specs.Journal.{Change, cut, orient, Answer}
 use Rattle.journal.specs.Calls.{Call, load, change, back, list, fit}
 
--- of a call that gives nothing but a sheet
-abbrev pub afterEdit : Outcome (List ℕ) × Sheet → Answer × Sheet
+-- of a call that gives nothing but the sheet, or what else it was called on
+abbrev pub afterEdit : {A : Type 0} → Outcome (List ℕ) × A → Answer × A
 afterEdit r = (record { outcome = r .0; buffer = [] }, r .1)
 
--- of list and fit, which leave the sheet as it is
-abbrev pub afterList : Outcome (List ℕ) → List ℕ → Sheet → Answer × Sheet
+-- of list and fit, which leave it as it is
+abbrev pub afterList : {A : Type 0} → Outcome (List ℕ) → List ℕ → A → Answer × A
 afterList outcome buffer s = (record { outcome = outcome; buffer = buffer }, s)
 
 abbrev pub changed : Sheet → Change → Outcome (List ℕ) × Sheet

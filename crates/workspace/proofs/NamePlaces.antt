@@ -1,9 +1,8 @@
 -- Names: the loops that lay one into 16 places and look one up, each from what is left to do; and the comparison. Assumes nothing.
-use Prim.Native.Nat.{ℕ, zero, suc, _+_, _-_, _<_, _≤_}
-use mathlib.Core.Bool.{Bool, true, false, _&&_, cond}
-use mathlib.Core.List.{List, [], _∷_}
-use mathlib.Core.Path.{_≡_, refl, sym, ap, _∙_}
-use lib.Dec.{leb}
+use Prim.Native.Nat.{ℕ, suc, _+_, _<_, _≤_}
+use mathlib.Core.Bool.{Bool, true, false}
+use mathlib.Core.List.{List, _∷_}
+use mathlib.Core.Path.{_≡_, refl, ap, _∙_}
 use lib.ListN.{getD, length, replicate, take, drop, set, drop-of-length-le}
 use lib.Seq.{drop-cons, length-take-le, getD-take}
 use native.Mathlib.Omega.{arith}

@@ -1,10 +1,10 @@
 -- The tests of a workspace's calls, in the code's order. Assumes nothing.
-use Prim.Native.Nat.{ℕ, _+_, _<_, _≤_}
-use mathlib.Core.Bool.{Bool, true, false, not, _&&_, _||_, cond}
+use Prim.Native.Nat.{ℕ, _<_, _≤_}
+use mathlib.Core.Bool.{Bool, true, false, not, _&&_, cond}
 use mathlib.Core.List.{List, map}
-use mathlib.Core.Path.{_≡_, refl, sym, ap, _∙_}
-use lib.Dec.{leb, ltb, eqb}
-use lib.ListN.{length, set, length-map}
+use mathlib.Core.Path.{_≡_, sym, _∙_}
+use lib.Dec.{ltb, eqb}
+use lib.ListN.{length, length-map}
 use borrow.Author.Tests.{lt-ltb, le-ltb, leb-true, ltb-false, not-true, not-false}
 use Rattle.laws.proofs.Tests.{both, neither}
 use Rattle.reading.specs.Outcome.{Outcome}

@@ -16,6 +16,7 @@ ghost use Rattle.reading.specs.Outcome.{numberOf};
 ghost use Rattle.placing.specs.Focus.{focusOf};
 ghost use Rattle.sheet.specs.Sheet.{editedMeans, usable, orientSheet, cutSheet, backSheet};
 ghost use Rattle.sheet.specs.Listing.{listMeans};
+ghost use Rattle.workspace.specs.Names.{inPlaces};
 ghost use Rattle.workspace.specs.Workspace.{checkpointMeans, checkpointedMeans, editedWorkspaceMeans, loadedWorkspaceMeans, blankCheckpoint, withoutNames, freshWorkspace, loadIn, withSheet, isCounted, editIn, listOutcomeIn, listBufferIn, fitOutcomeIn, fitBufferIn, placeOf, keepAt, keepIn, returnAt, returnIn};
 
 mod names; // names of 1 to 16 bytes
@@ -76,6 +77,20 @@ pub fn checkpoint_number(answer: CheckpointAnswer) -> u32
         CheckpointAnswer::NinthName => 17,
         CheckpointAnswer::NoSuchName => 18,
     }
+}
+
+// A name in 16 places, with zeros behind it.
+fn in_places(name: &[u8]) -> [u8; 16]
+    requires { ⌜ length (now name) ≤ 16 ⌝ }
+    ensures { λ r. ⌜ r ≡ inPlaces (now (name .entry)) ⌝ }
+{
+    let mut places = [0u8; 16];
+    let mut i: usize = 0;
+    while i < name.len() {
+        places[i] = name[i];
+        i += 1;
+    }
+    places
 }
 
 // Eight places with no checkpoint in them.
@@ -264,7 +279,7 @@ impl Workspace {
         requires { ⌜ (length (now name) ≤ 16) × (at < 8) ⌝ }
         ensures { λ r. ⌜ r ≡ keepAt self (now (name .entry)) at ⌝ }
     {
-        let stored = crate::names::in_places(name);
+        let stored = in_places(name);
         let sheet = self.sheet;
         let edits = sheet.edits;
         let p = Checkpoint {

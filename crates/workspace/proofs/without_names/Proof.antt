@@ -1,3 +1,4 @@
+-- `without_names`: the sheet beside blank places. Assumes nothing.
 use mathlib.Core.Path.{_≡_}
 use mathlib.Core.List.{List}
 use lib.ListN.{replicate}

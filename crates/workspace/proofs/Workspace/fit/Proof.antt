@@ -1,3 +1,4 @@
+-- `Workspace::fit`: by the count, then from what the sheet's ensures. Assumes nothing.
 use denote.Ref.{now}
 use mathlib.Core.Path.{_∙_}
 use Rattle.reading.specs.Outcome.{refused}

@@ -1,3 +1,4 @@
+-- `Workspace::is_usable`: the count, then the sheet. Assumes nothing.
 use mathlib.Core.Bool.{Bool, true, false, not, _&&_}
 use mathlib.Core.Path.{_≡_}
 use borrow.Author.Tests.{not-true, not-false}

@@ -1,3 +1,4 @@
+-- `Workspace::keep`: the tests 7, 16, 17 in their order. Assumes nothing.
 use mathlib.Core.Path.{_∙_}
 use Rattle.workspace.proofs.Tests.{name-fits, counts, keep-empty, keep-bad, keep-ninth, keep-done}
 use borrow.Author.Needs.{needs}

@@ -1,3 +1,4 @@
+-- `Workspace::keep_at`: keepAt, with a place in use and with the next. Assumes nothing.
 use Prim.Native.Nat.{ℕ, _+_, _<_, _≤_}
 use mathlib.Core.Path.{_≡_}
 use mathlib.Core.List.{List}

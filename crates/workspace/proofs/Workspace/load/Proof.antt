@@ -1,3 +1,4 @@
+-- `Workspace::load`: loadIn by what the load comes to, from what the sheet's load ensures. Assumes nothing.
 use Prim.Native.Nat.{ℕ}
 use mathlib.Core.Path.{_≡_, sym, ap, _∙_}
 use mathlib.Core.List.{List}

@@ -1,3 +1,4 @@
+-- `Workspace::new`: without names, from what `Sheet::new` ensures. Assumes nothing.
 use mathlib.Core.Path.{ap, _∙_}
 use Rattle.workspace.specs.Workspace.{withoutNames}
 use borrow.Author.Needs.{needs}

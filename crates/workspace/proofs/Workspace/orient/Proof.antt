@@ -1,3 +1,4 @@
+-- `Workspace::orient`: from what the sheet's ensures. Assumes nothing.
 use mathlib.Core.Path.{ap, _∙_}
 use Rattle.workspace.specs.Workspace.{editIn}
 use borrow.Author.Needs.{needs}

@@ -1,3 +1,4 @@
+-- `Workspace::place_of`: the loop passes the places that do not have the name. Assumes nothing.
 use borrow.Author.Needs.{needs}
 use Prim.Native.Nat.{_-_, _≤_}
 use lib.ListN.{take}

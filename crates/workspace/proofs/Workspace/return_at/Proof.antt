@@ -1,3 +1,4 @@
+-- `Workspace::return_at`: returnAt, word by word. Assumes nothing.
 use Rattle.workspace.specs.Workspace.{returnAt}
 use borrow.Author.Needs.{needs}
 use Rattle.workspace.proofs.Workspace.return_at.Statement.{statement}

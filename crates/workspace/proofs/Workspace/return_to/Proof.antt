@@ -1,3 +1,4 @@
+-- `Workspace::return_to`: the tests 7, 16, 18 in their order. Assumes nothing.
 use mathlib.Core.Path.{_∙_}
 use native.Mathlib.Omega.{arith}
 use Rattle.workspace.proofs.Tests.{counts, return-empty, return-bad, return-none, return-done}

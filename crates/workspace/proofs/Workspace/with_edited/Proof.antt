@@ -1,3 +1,4 @@
+-- `Workspace::with_edited`: editIn by the count. Assumes nothing.
 use Rattle.workspace.specs.Workspace.{editIn}
 use Rattle.sheet.specs.Sheet.{keptBy}
 use Rattle.workspace.proofs.Tests.{otherwise, chosen}

@@ -1,3 +1,4 @@
+-- `is_bad_name`: the two tests. Assumes nothing.
 use borrow.Author.Tests.{eq-eqb, ne-eqb}
 use Rattle.workspace.specs.Names.{isBadName}
 use Rattle.workspace.proofs.names.is_bad_name.Statement.{statement}

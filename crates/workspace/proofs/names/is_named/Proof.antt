@@ -1,3 +1,4 @@
+-- `is_named`: by the length, then from what `equals` ensures. Assumes nothing.
 use mathlib.Core.Path.{_≡_, sym}
 use lib.ListN.{length}
 use lib.Seq.{length-take-le}

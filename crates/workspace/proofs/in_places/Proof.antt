@@ -1,9 +1,10 @@
+-- `in_places`: the loop collects the name's bytes at the front of zeros. Assumes nothing.
 use Prim.Native.Nat.{_-_, _≤_}
 use lib.ListN.{length}
 use native.Mathlib.Omega.{arith}
 use Rattle.workspace.proofs.NamePlaces.{Laid, laid-none, laid-more, laid-all}
-use Rattle.workspace.proofs.names.in_places.Statement.{statement}
-use Rattle.workspace.proofs.names.in_places.Tie as tie
+use Rattle.workspace.proofs.in_places.Statement.{statement}
+use Rattle.workspace.proofs.in_places.Tie as tie
 
 abbrev Inv-loop : tie.InvT-loop
 Inv-loop name places₀ i₀ places i = (i ≤ length name) × Laid name places i

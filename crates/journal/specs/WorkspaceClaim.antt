@@ -1,0 +1,163 @@
+-- 02, 2026-03: one claim over every list of a workspace's calls, and what follows from it. proofs/WorkspaceAgrees.antt proves the claim;
+-- what follows is proved in proofs/Latest.antt (returns), Alone.antt (a workspace beside a sheet), RefusalsIn.antt and KeptIn.antt
+-- (refused calls, and a workspace made by hand).
+use Prim.Native.Nat.{ℕ, _*_, _<_, _≤_}
+use mathlib.Core.Bool.{Bool, false, _&&_, cond}
+use mathlib.Core.List.{List, [], _∷_, _++_, map}
+use mathlib.Core.Logic.{_↔_, _⊎_}
+use mathlib.Core.Option.{Option, none, some}
+use mathlib.Core.Path.{_≡_}
+use lib.ListN.{length, drop}
+use Rattle.numbers.specs.Bytes.{same}
+use Rattle.reading.specs.Outcome.{refused, accepted, isAccepted}
+use Rattle.reading.specs.declared.geometry.OptionalSize.{OptionalSize}
+use Rattle.placing.specs.Focus.{focusOf}
+use Rattle.placing.specs.Load.{Focus}
+use Rattle.sheet.specs.Sheet.{freshSheet}
+use Rattle.workspace.specs.declared.Workspace.{Workspace}
+use Rattle.workspace.specs.Workspace.{freshWorkspace}
+use Rattle.journal.specs.Journal.{Change, Journal, empty, holds, presentFrame, Answer, no, ok, numbers, head}
+use Rattle.journal.specs.Calls.{Call, load, list, isLoad}
+use Rattle.journal.specs.SheetCalls.{runSheet}
+use Rattle.journal.specs.Claim.{after, answer, shown, PrimaryListed, Refuses}
+use Rattle.journal.specs.WorkspaceJournal.{Kept, WorkspaceJournal, with, emptyIn, keptUnder, WorkspaceCall, onSheet, keep, return, lentIn, runJournalIn, journalAfterIn}
+use Rattle.journal.specs.WorkspaceCalls.{workspaceStep, runWorkspace, workspaceAfter}
+
+-- "A list of calls may now hold keeps and returns. The book holds the names too": each call of the list answers, and leaves the buffer,
+-- as the journal says, which is fed the calls alone
+abbrev pub WorkspaceClaim : Type 0
+WorkspaceClaim = (calls : List WorkspaceCall) → runWorkspace freshWorkspace calls ≡ runJournalIn emptyIn calls
+
+-- ---- after a list of calls
+-- the journal, and what the workspace answers to one call more
+abbrev pub afterIn : List WorkspaceCall → WorkspaceJournal
+afterIn calls = journalAfterIn emptyIn calls
+
+abbrev pub answerIn : List WorkspaceCall → WorkspaceCall → Answer
+answerIn calls c = workspaceStep (workspaceAfter freshWorkspace calls) c .0
+
+-- ---- the latest accepted keep under a name since the last accepted load: the calls before it, if there is one
+-- what is known of it after one call more: an accepted load forgets it, an accepted keep under that name is it
+abbrev pub latestBy : List ℕ → List WorkspaceCall → Option (List WorkspaceCall) → WorkspaceCall → Option (List WorkspaceCall)
+latestBy name before latest (onSheet c) =
+    cond (isLoad c && isAccepted (answerIn before (onSheet c) .outcome)) none latest
+latestBy name before latest (keep other) =
+    cond (isAccepted (answerIn before (keep other) .outcome) && same other name) (some before) latest
+latestBy name before latest (return other) = latest
+
+unfoldable pub latestFrom : List ℕ → List WorkspaceCall → Option (List WorkspaceCall) → List WorkspaceCall → Option (List WorkspaceCall)
+latestFrom name before latest [] = latest
+latestFrom name before latest (c ∷ cs) = latestFrom name (before ++ c ∷ []) (latestBy name before latest c) cs
+
+abbrev pub latestKeep : List ℕ → List WorkspaceCall → Option (List WorkspaceCall)
+latestKeep name calls = latestFrom name [] none calls
+
+-- a return to the keep that came after the calls `before`: it is accepted; the load and the standing edits are those of then; every
+-- call of the sheet is answered as it would have been then
+pub record ComesBack (calls before : List WorkspaceCall) (name : List ℕ) : Type 0 where
+  pub accepts : answerIn calls (return name) ≡ ok [] []
+  pub stands : afterIn (calls ++ return name ∷ []) .journal ≡ afterIn before .journal
+  pub answers : (c : Call) → answerIn (calls ++ return name ∷ []) (onSheet c) ≡ answerIn before (onSheet c)
+
+-- "the standing edits after a return are those that stood at the latest accepted keep under that name"
+abbrev pub ReturnsToLatest : Type 0
+ReturnsToLatest =
+    (calls before : List WorkspaceCall) (name : List ℕ) → latestKeep name calls ≡ some before → ComesBack calls before name
+
+-- without such a keep there is no coming back
+abbrev pub NoKeepNoReturn : Type 0
+NoKeepNoReturn =
+    (calls : List WorkspaceCall) (name : List ℕ) → latestKeep name calls ≡ none →
+    isAccepted (answerIn calls (return name) .outcome) ≡ false
+
+-- "at most eight names"
+abbrev pub EightAtMost : Type 0
+EightAtMost = (calls : List WorkspaceCall) → length (afterIn calls .names) ≤ 8
+
+-- ---- a workspace beside a sheet
+-- a list without keeps and returns answers as the sheet alone does
+abbrev pub SheetAlone : Type 0
+SheetAlone = (calls : List Call) → runWorkspace freshWorkspace (map onSheet calls) ≡ runSheet freshSheet calls
+
+-- after any list of calls the workspace's sheet is one that a sheet's calls alone lead to, and answers as that one does; so all that is
+-- said of a sheet after calls holds of it
+pub record AsSheet (calls : List WorkspaceCall) : Type 0 where
+  pub alone : List Call
+  pub same-journal : after alone ≡ afterIn calls .journal
+  pub same-answers : (c : Call) → answerIn calls (onSheet c) ≡ answer alone c
+
+abbrev pub AsSomeSheet : Type 0
+AsSomeSheet = (calls : List WorkspaceCall) → AsSheet calls
+
+-- the primary stays listed, whatever a return brings back
+abbrev pub PrimaryIsListedIn : Type 0
+PrimaryIsListedIn =
+    (calls : List WorkspaceCall) (f : Focus) (standing : List Change) → afterIn calls .journal ≡ holds f standing →
+    PrimaryListed f standing
+
+-- the listing is exactly the last accepted load's points that fit inside every standing cut, each where the standing edits carry it
+abbrev pub ListsExactlyIn : Type 0
+ListsExactlyIn =
+    (calls : List WorkspaceCall) (f : Focus) (standing : List Change) → afterIn calls .journal ≡ holds f standing →
+    (buffer : List ℕ) → 6 * length (shown f standing) ≤ length buffer →
+    answerIn calls (onSheet (list buffer)) ≡
+    ok (head f standing (presentFrame f standing) (shown f standing))
+    (numbers (shown f standing) ++ drop (6 * length (shown f standing)) buffer)
+
+-- ---- refusals
+-- 16: "name empty or too long", and when it is neither
+abbrev pub BadName : List ℕ → Type 0
+BadName name = (length name ≡ 0) ⊎ (16 < length name)
+
+pub record GoodName (name : List ℕ) : Type 0 where
+  pub some-bytes : 1 ≤ length name
+  pub not-long : length name ≤ 16
+
+-- when a number is the lowest that applies to a call, from what the journal holds: to a call of the sheet as to the sheet alone; "16,
+-- name empty or too long; 17, a ninth name; 18, no such name; all after 7, in that order"
+pub data RefusesIn : WorkspaceJournal → WorkspaceCall → ℕ → Type 0 where
+  ofSheet : {j : Journal} {ks : List Kept} {c : Call} {n : ℕ} → Refuses j c n → RefusesIn (with j ks) (onSheet c) n
+  -- "sheet is empty"
+  emptyKeep : {ks : List Kept} {name : List ℕ} → RefusesIn (with empty ks) (keep name) 7
+  emptyReturn : {ks : List Kept} {name : List ℕ} → RefusesIn (with empty ks) (return name) 7
+  -- "name empty or too long"
+  badKeep : {f : Focus} {standing : List Change} {ks : List Kept} {name : List ℕ} → BadName name
+      → RefusesIn (with (holds f standing) ks) (keep name) 16
+  badReturn : {f : Focus} {standing : List Change} {ks : List Kept} {name : List ℕ} → BadName name
+      → RefusesIn (with (holds f standing) ks) (return name) 16
+  -- "a ninth name": eight are kept, and this is none of them
+  ninth : {f : Focus} {standing : List Change} {ks : List Kept} {name : List ℕ} → GoodName name → keptUnder name ks ≡ none
+      → 8 ≤ length ks → RefusesIn (with (holds f standing) ks) (keep name) 17
+  -- "no such name"
+  noSuchName : {f : Focus} {standing : List Change} {ks : List Kept} {name : List ℕ} → GoodName name → keptUnder name ks ≡ none
+      → RefusesIn (with (holds f standing) ks) (return name) 18
+
+-- a call is refused exactly when its refusals say
+abbrev pub RefusedExactlyIn : Type 0
+RefusedExactlyIn =
+    (calls : List WorkspaceCall) (c : WorkspaceCall) (n : ℕ) → (answerIn calls c .outcome ≡ refused n) ↔ RefusesIn (afterIn calls) c n
+
+-- on every workspace, also one made by hand, a refused call leaves the workspace, names and all, and the buffer as they were
+abbrev pub RefusedKeepsIn : Type 0
+RefusedKeepsIn =
+    (w : Workspace) (c : WorkspaceCall) (n : ℕ) → workspaceStep w c .0 .outcome ≡ refused n →
+    (workspaceStep w c .1 ≡ w) × (workspaceStep w c .0 .buffer ≡ lentIn c)
+
+-- ---- a workspace made by hand
+-- after an accepted load on any workspace all goes on as the journal says, without names
+abbrev pub LoadOnAnyIn : Type 0
+LoadOnAnyIn =
+    (w : Workspace) (block : List ℕ) (raw picture : OptionalSize) (model : List ℕ) (f : Focus) →
+    focusOf block raw picture model ≡ accepted f →
+    (calls : List WorkspaceCall) →
+    runWorkspace w (onSheet (load block raw picture model) ∷ calls) ≡ ok [] [] ∷ runJournalIn (with (holds f []) []) calls
+
+-- one whose count passes its places is empty to every call but load
+abbrev pub isLoadIn : WorkspaceCall → Bool
+isLoadIn (onSheet c) = isLoad c
+isLoadIn (keep name) = false
+isLoadIn (return name) = false
+
+abbrev pub UncountedIsEmpty : Type 0
+UncountedIsEmpty =
+    (w : Workspace) (c : WorkspaceCall) → 8 < w .count → isLoadIn c ≡ false → workspaceStep w c ≡ (no 7 (lentIn c), w)
