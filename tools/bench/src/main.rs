@@ -178,7 +178,7 @@ fn states_table(root: &Path) {
     let sheet = states::Sheet::of(&listing);
     assert_eq!(states::listed_turned(sheet), listed_behind(&[6]));
     let [small, large] = states::sizes();
-    println!("| call, the state handed on by value | a plain state in Rust, ns | here, ns | times as long |");
+    println!("| call, the state handed on by value | a plain state in Rust, no call drawn in, ns | here, ns | times as long |");
     println!("|---|---|---|---|");
     states::KINDS.iter().for_each(|&kind| state_row(&program, load, sheet, kind));
     println!();

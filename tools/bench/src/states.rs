@@ -85,22 +85,23 @@ impl Sheet {
         (0, self)
     }
 
-    /// Only orientations stand here.
+    /// The listing's head in six numbers, and the points in the buffer. Only orientations stand here.
     #[inline(never)]
-    fn list(self, out: &mut [u32]) -> u32 {
+    fn list(self, out: &mut [u32]) -> Result<[u32; 6], u32> {
         if !self.is_usable() {
-            return 7;
+            return Err(7);
         }
         if out.len() < 6 * self.count {
-            return 13;
+            return Err(13);
         }
+        let mut frame = self.frame;
         for (&[number, x, y, width, height, focus], place) in self.points[..self.count].iter().zip(out.chunks_exact_mut(6)) {
             let from = Carried { frame: self.frame, center: [x, y], area: [width, height] };
             let to = self.edits.chunks_exact(5).take(self.standing).fold(from, |from, edit| oriented(from, edit[0] as u8));
+            frame = to.frame;
             place.copy_from_slice(&[number, to.center[0], to.center[1], to.area[0], to.area[1], focus]);
         }
-        black_box((self.mode, self.origin));
-        0
+        Ok([frame[0], frame[1], self.count as u32, self.primary as u32, self.mode, self.origin])
     }
 }
 
@@ -144,7 +145,7 @@ impl Workspace {
     }
 
     #[inline(never)]
-    fn list(self, out: &mut [u32]) -> u32 {
+    fn list(self, out: &mut [u32]) -> Result<[u32; 6], u32> {
         self.sheet.list(out)
     }
 
@@ -203,6 +204,10 @@ fn over<State>(mut state: State, count: u32, mut once: impl FnMut(State) -> (u32
     (last, state)
 }
 
+fn list_number(answer: Result<[u32; 6], u32>) -> u32 {
+    black_box(answer).err().unwrap_or(0)
+}
+
 /// What state_bench prints for a job, by the plain states. `out` is where lists go.
 pub fn plain(sheet: Sheet, kind: u8, count: u32, out: &mut [u32]) -> String {
     let sheet = sheet.orient(TURN).1;
@@ -215,8 +220,8 @@ pub fn plain(sheet: Sheet, kind: u8, count: u32, out: &mut [u32]) -> String {
         2 => on_workspace(over(workspace, count, |workspace| workspace.orient(black_box(TURN)).1.back())),
         3 => on_workspace(over(workspace, count, |workspace| workspace.keep(black_box(&name)).1.return_to(black_box(&name)))),
         4 => on_workspace(over(workspace, count, |workspace| workspace.keep(black_box(&name)))),
-        5 => on_sheet(over(sheet, count, |sheet| (sheet.list(black_box(out)), sheet))),
-        6 => on_workspace(over(workspace, count, |workspace| (workspace.list(black_box(out)), workspace))),
+        5 => on_sheet(over(sheet, count, |sheet| (list_number(sheet.list(black_box(out))), sheet))),
+        6 => on_workspace(over(workspace, count, |workspace| (list_number(workspace.list(black_box(out))), workspace))),
         7 => on_sheet(over(sheet, count, |sheet| sheet.orient(black_box(0)))),
         8 => on_workspace(over(workspace, count, |workspace| workspace.orient(black_box(0)))),
         _ => panic!("no kind {kind}"),
@@ -232,8 +237,8 @@ pub fn plain(sheet: Sheet, kind: u8, count: u32, out: &mut [u32]) -> String {
 /// Where a turn carries the sheet's points, by its list.
 pub fn listed_turned(sheet: Sheet) -> Vec<Carried> {
     let mut out = vec![0; 6 * sheet.count];
-    assert_eq!(sheet.orient(TURN).1.list(&mut out), 0);
-    let frame = [sheet.frame[1], sheet.frame[0]];
+    let head = sheet.orient(TURN).1.list(&mut out).unwrap();
+    let frame = [head[0], head[1]];
     out.chunks_exact(6).map(|point| Carried { frame, center: [point[1], point[2]], area: [point[3], point[4]] }).collect()
 }
 
