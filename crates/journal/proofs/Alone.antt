@@ -19,7 +19,7 @@ use Rattle.journal.specs.Journal.{Change, Journal, empty, holds, Answer,
 use Rattle.journal.specs.Calls.{Call, load, change, back, list, fit, journalStep, journalAfter}
 use Rattle.journal.specs.SheetCalls.{afterEdit, sheetStep, runSheet}
 use Rattle.journal.specs.Claim.{after}
-use Rattle.journal.specs.WorkspaceJournal.{Kept, WorkspaceJournal, with, emptyIn, keptUnder, keepUnder, WorkspaceCall, onSheet, keep, return, namesAfter, journalSheet, keepRefusal, journalKeep, backTo, journalReturn, journalStepIn, journalAfterIn}
+use Rattle.journal.specs.WorkspaceJournal.{NamedEdits, WorkspaceJournal, with, emptyIn, keptUnder, keepUnder, WorkspaceCall, onSheet, keep, return, namesAfter, journalSheet, keepRefusal, journalKeep, returned, journalReturn, journalStepIn, journalAfterIn}
 use Rattle.journal.specs.WorkspaceCalls.{sheetStepIn, workspaceStep, runWorkspace}
 use Rattle.journal.specs.WorkspaceClaim.{SheetAlone, AsSomeSheet, PrimaryIsListedIn, ListsExactlyIn}
 use Rattle.journal.proofs.Answers.{answers, after-append}
@@ -70,11 +70,11 @@ step-reached j c r = record {
 }
 
 -- the journal of a load with any of the kept edits
-abbrev RowsReached : Focus → List Kept → Type 0
+abbrev RowsReached : Focus → List NamedEdits → Type 0
 RowsReached f [] = Unit
 RowsReached f (k ∷ ks) = Reached (holds f (k .edits)) × RowsReached f ks
 
-abbrev NamesReached : Journal → List Kept → Type 0
+abbrev NamesReached : Journal → List NamedEdits → Type 0
 NamesReached empty ks = Unit
 NamesReached (holds f standing) ks = RowsReached f ks
 
@@ -82,18 +82,18 @@ abbrev AllReached : WorkspaceJournal → Type 0
 AllReached w = Reached (w .journal) × NamesReached (w .journal) (w .names)
 
 -- ---- a call of the sheet leaves the names what they are, or clears them
-ended-names : (o : Option ℕ) (f : Focus) (row more : List Change) (ks : List Kept) → RowsReached f ks
+ended-names : (o : Option ℕ) (f : Focus) (row more : List Change) (ks : List NamedEdits) → RowsReached f ks
     → NamesReached (ended o (holds f row) (holds f more) .1) ks
 ended-names none f row more ks r = r
 ended-names (some n) f row more ks r = r
 
-load-names : (j : Journal) (o : Outcome Focus) (ks : List Kept) → NamesReached j ks
+load-names : (j : Journal) (o : Outcome Focus) (ks : List NamedEdits) → NamesReached j ks
     → NamesReached (journalLoad j o .1) (cond (isAccepted (journalLoad j o .0 .outcome)) [] ks)
 unfolding journalLoad
 load-names j (refused n) ks r = r
 load-names j (accepted f) ks r = tt
 
-sheet-names : (j : Journal) (ks : List Kept) (c : Call) → NamesReached j ks
+sheet-names : (j : Journal) (ks : List NamedEdits) (c : Call) → NamesReached j ks
     → NamesReached (journalStep j c .1) (namesAfter c (journalStep j c .0) ks)
 unfolding journalStep journalChange journalBack
 sheet-names j ks (load block raw picture model) r = load-names j (focusOf block raw picture model) ks r
@@ -105,7 +105,7 @@ sheet-names j ks (list b) r = r
 sheet-names j ks (fit box b) r = r
 
 -- ---- keep and return
-keep-rows : (f : Focus) (name : List ℕ) (row : List Change) (ks : List Kept) → Reached (holds f row) → RowsReached f ks
+keep-rows : (f : Focus) (name : List ℕ) (row : List Change) (ks : List NamedEdits) → Reached (holds f row) → RowsReached f ks
     → RowsReached f (keepUnder name row ks)
 unfolding keepUnder
 keep-rows f name row [] q r = (q, tt)
@@ -116,7 +116,7 @@ keep-rows f name row (k ∷ ks) q r = by (keep-rows f name row ks q (r .1)) (sam
     by s true = (q, r .1)
     by s false = (r .0, s)
 
-keep-reached : (j : Journal) (ks : List Kept) (name : List ℕ) → AllReached (with j ks) → AllReached (journalKeep j ks name .1)
+keep-reached : (j : Journal) (ks : List NamedEdits) (name : List ℕ) → AllReached (with j ks) → AllReached (journalKeep j ks name .1)
 unfolding journalKeep keepRefusal
 keep-reached empty ks name r = r
 keep-reached (holds f row) ks name r = by (keepRefusal name ks)
@@ -129,7 +129,7 @@ abbrev IfReached : Focus → Option (List Change) → Type 0
 IfReached f none = Unit
 IfReached f (some edits) = Reached (holds f edits)
 
-row-reached : (f : Focus) (name : List ℕ) (ks : List Kept) → RowsReached f ks → IfReached f (keptUnder name ks)
+row-reached : (f : Focus) (name : List ℕ) (ks : List NamedEdits) → RowsReached f ks → IfReached f (keptUnder name ks)
 unfolding keptUnder
 row-reached f name [] r = tt
 row-reached f name (k ∷ ks) r = by (row-reached f name ks (r .1)) (same (k .name) name)
@@ -138,13 +138,13 @@ row-reached f name (k ∷ ks) r = by (row-reached f name ks (r .1)) (same (k .na
     by s true = r .0
     by s false = s
 
-return-reached : (j : Journal) (ks : List Kept) (name : List ℕ) → AllReached (with j ks) → AllReached (journalReturn j ks name .1)
+return-reached : (j : Journal) (ks : List NamedEdits) (name : List ℕ) → AllReached (with j ks) → AllReached (journalReturn j ks name .1)
 unfolding journalReturn
 return-reached empty ks name r = r
 return-reached (holds f row) ks name r = by (isBadName name) (keptUnder name ks) (row-reached f name ks (r .1))
   where
     by : (a : Bool) (o : Option (List Change)) → IfReached f o
-        → AllReached (cond a (no 16 [], with (holds f row) ks) (backTo o f row ks) .1)
+        → AllReached (cond a (no 16 [], with (holds f row) ks) (returned o f row ks) .1)
     by true o q = r
     by false none q = r
     by false (some edits) q = (q, r .1)

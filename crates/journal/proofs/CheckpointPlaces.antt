@@ -13,11 +13,11 @@ use Rattle.numbers.specs.Bytes.{same}
 use Rattle.workspace.specs.declared.Checkpoint.{Checkpoint}
 use Rattle.workspace.specs.Names.{inPlaces, isNamed}
 use Rattle.workspace.specs.Workspace.{noCheckpoint, blankCheckpoint, placeIn}
-use Rattle.journal.specs.WorkspaceJournal.{Kept, keptUnder, keepUnder}
+use Rattle.journal.specs.WorkspaceJournal.{NamedEdits, keptUnder, keepUnder}
 use Rattle.journal.proofs.Placed.{rowAt}
 
 -- what a checkpoint keeps
-abbrev pub keptOf : Checkpoint → Kept
+abbrev pub keptOf : Checkpoint → NamedEdits
 keptOf p = record { name = take (p .len) (p .name); edits = rowAt (p .edits) (p .standing) }
 
 -- what holds of every place after calls
@@ -81,13 +81,13 @@ kept-is x name e = ap (λ (m : List ℕ). record { name = m; edits = keptOf x .e
 
 pub find : (name : List ℕ) (ps : List Checkpoint) → AllFine ps → Found name ps (placeIn name ps)
 unfolding placeIn keptUnder keepUnder
-find name [] nil = absent refl refl (λ x e. ap (λ (k : Kept). k ∷ []) (kept-is x name e))
+find name [] nil = absent refl refl (λ x e. ap (λ (k : NamedEdits). k ∷ []) (kept-is x name e))
 find name (p ∷ ps) (cons f a) = by (isNamed name (p .name) (p .len)) (sym (named-same name p f)) (find name ps a)
   where
     by : (b : Bool) → same (keptOf p .name) name ≡ b → Found name ps (placeIn name ps)
         → Found name (p ∷ ps) (cond b 0 (suc (placeIn name ps)))
-    by true e g = there (omega arith) (rw e) (λ x d. rw e (ap (λ (k : Kept). k ∷ map keptOf ps) (kept-is x name d)))
+    by true e g = there (omega arith) (rw e) (λ x d. rw e (ap (λ (k : NamedEdits). k ∷ map keptOf ps) (kept-is x name d)))
     by false e (there h r s) =
-        there (omega arith) (rw e r) (λ x d. rw e (ap (λ (ks : List Kept). keptOf p ∷ ks) (s x d)))
+        there (omega arith) (rw e r) (λ x d. rw e (ap (λ (ks : List NamedEdits). keptOf p ∷ ks) (s x d)))
     by false e (absent h r s) =
-        absent (omega arith) (rw e r) (λ x d. rw e (ap (λ (ks : List Kept). keptOf p ∷ ks) (s x d)))
+        absent (omega arith) (rw e r) (λ x d. rw e (ap (λ (ks : List NamedEdits). keptOf p ∷ ks) (s x d)))

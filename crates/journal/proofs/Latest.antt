@@ -16,7 +16,7 @@ use Rattle.placing.specs.Load.{Focus}
 use Rattle.workspace.specs.Names.{isBadName}
 use Rattle.journal.specs.Journal.{Change, Journal, empty, holds, Answer, no, ok, ended, changeRefusal, backRefusal, journalLoad, journalChange, journalBack}
 use Rattle.journal.specs.Calls.{Call, load, change, back, list, fit, isLoad, journalStep}
-use Rattle.journal.specs.WorkspaceJournal.{Kept, WorkspaceJournal, with, emptyIn, keptUnder, keepUnder, isNinth, WorkspaceCall, onSheet, keep, return, namesAfter, journalSheet, keepRefusal, journalKeep, backTo, journalReturn, journalStepIn, journalAfterIn}
+use Rattle.journal.specs.WorkspaceJournal.{NamedEdits, WorkspaceJournal, with, emptyIn, keptUnder, keepUnder, isNinth, WorkspaceCall, onSheet, keep, return, namesAfter, journalSheet, keepRefusal, journalKeep, returned, journalReturn, journalStepIn, journalAfterIn}
 use Rattle.journal.specs.WorkspaceClaim.{afterIn, latestBy, latestFrom, latestKeep, ReturnsToLatest, NoKeepNoReturn}
 use Rattle.journal.proofs.WorkspaceAgrees.{answers-in}
 
@@ -51,7 +51,7 @@ same-both k m n d e = by (same k n) refl
         absurd (false≢true (sym d ∙ f))
 
 -- what is kept under a name after a keep under another, or the same
-kept-after : (n m : List ℕ) (edits : List Change) (ks : List Kept)
+kept-after : (n m : List ℕ) (edits : List Change) (ks : List NamedEdits)
     → keptUnder n (keepUnder m edits ks) ≡ cond (same m n) (some edits) (keptUnder n ks)
 unfolding keptUnder keepUnder
 kept-after n m edits [] = refl
@@ -85,7 +85,7 @@ other-edits name (some before) none f standing more k = k
 
 -- ---- one call of the sheet
 module _ (name : List ℕ) (l : Option (List WorkspaceCall)) where
-  load-keeps : (j : Journal) (ks : List Kept) (o : Outcome Focus) → KeptAt name l (keptUnder name ks) j
+  load-keeps : (j : Journal) (ks : List NamedEdits) (o : Outcome Focus) → KeptAt name l (keptUnder name ks) j
       → KeptAt name (cond (isAccepted (journalLoad j o .0 .outcome)) none l)
       (keptUnder name (cond (isAccepted (journalLoad j o .0 .outcome)) [] ks)) (journalLoad j o .1)
   unfolding journalLoad keptUnder
@@ -97,7 +97,7 @@ module _ (name : List ℕ) (l : Option (List WorkspaceCall)) where
   ended-keeps o none f standing more k = other-edits name l o f standing more k
   ended-keeps o (some n) f standing more k = k
 
-  sheet-keeps : (j : Journal) (ks : List Kept) (c : Call) → KeptAt name l (keptUnder name ks) j
+  sheet-keeps : (j : Journal) (ks : List NamedEdits) (c : Call) → KeptAt name l (keptUnder name ks) j
       → KeptAt name (cond (isLoad c && isAccepted (journalStep j c .0 .outcome)) none l)
       (keptUnder name (namesAfter c (journalStep j c .0) ks)) (journalStep j c .1)
   unfolding journalStep journalChange journalBack
@@ -111,7 +111,7 @@ module _ (name : List ℕ) (l : Option (List WorkspaceCall)) where
 
   -- ---- keep and return
   module _ (before : List WorkspaceCall) (m : List ℕ) where
-    keep-keeps : (j : Journal) (ks : List Kept) → afterIn before .journal ≡ j → KeptAt name l (keptUnder name ks) j
+    keep-keeps : (j : Journal) (ks : List NamedEdits) → afterIn before .journal ≡ j → KeptAt name l (keptUnder name ks) j
         → KeptAt name (cond (isAccepted (journalKeep j ks m .0 .outcome) && same m name) (some before) l)
         (keptUnder name (journalKeep j ks m .1 .names)) (journalKeep j ks m .1 .journal)
     unfolding journalKeep keepRefusal
@@ -130,25 +130,25 @@ module _ (name : List ℕ) (l : Option (List WorkspaceCall)) where
         by false d true = k
         by false d false = rw (kept-after name m row ks) (renamed (same m name) refl d)
 
-  return-keeps : (m : List ℕ) (j : Journal) (ks : List Kept) → KeptAt name l (keptUnder name ks) j
+  return-keeps : (m : List ℕ) (j : Journal) (ks : List NamedEdits) → KeptAt name l (keptUnder name ks) j
       → KeptAt name l (keptUnder name (journalReturn j ks m .1 .names)) (journalReturn j ks m .1 .journal)
   unfolding journalReturn
   return-keeps m empty ks k = k
   return-keeps m (holds f row) ks k = by (isBadName m) (keptUnder m ks)
     where
       by : (a : Bool) (o : Option (List Change)) →
-          let r : Answer × WorkspaceJournal = cond a (no 16 [], with (holds f row) ks) (backTo o f row ks) in
+          let r : Answer × WorkspaceJournal = cond a (no 16 [], with (holds f row) ks) (returned o f row ks) in
           KeptAt name l (keptUnder name (r .1 .names)) (r .1 .journal)
       by true o = k
       by false none = k
       by false (some edits) = other-edits name l (keptUnder name ks) f row edits k
 
 -- ---- any call, any list of calls
-abbrev KeptIn : List ℕ → Option (List WorkspaceCall) → WorkspaceJournal → Type 0
-KeptIn name l w = KeptAt name l (keptUnder name (w .names)) (w .journal)
+abbrev KeptAfter : List ℕ → Option (List WorkspaceCall) → WorkspaceJournal → Type 0
+KeptAfter name l w = KeptAt name l (keptUnder name (w .names)) (w .journal)
 
 one-call : (name : List ℕ) (before : List WorkspaceCall) (l : Option (List WorkspaceCall)) (c : WorkspaceCall)
-    → KeptIn name l (afterIn before) → KeptIn name (latestBy name before l c) (journalStepIn (afterIn before) c .1)
+    → KeptAfter name l (afterIn before) → KeptAfter name (latestBy name before l c) (journalStepIn (afterIn before) c .1)
 unfolding journalStepIn journalSheet
 one-call name before l (onSheet c) k =
     rw (answers-in before (onSheet c)) (sheet-keeps name l (afterIn before .journal) (afterIn before .names) c k)
@@ -157,14 +157,14 @@ one-call name before l (keep m) k =
 one-call name before l (return m) k = return-keeps name l m (afterIn before .journal) (afterIn before .names) k
 
 latest-from : (name : List ℕ) (cs before : List WorkspaceCall) (l : Option (List WorkspaceCall))
-    → KeptIn name l (afterIn before) → KeptIn name (latestFrom name before l cs) (afterIn (before ++ cs))
+    → KeptAfter name l (afterIn before) → KeptAfter name (latestFrom name before l cs) (afterIn (before ++ cs))
 unfolding latestFrom
 latest-from name [] before l k = rw (append-nil before) k
 latest-from name (c ∷ cs) before l k =
-    let next : KeptIn name (latestBy name before l c) (afterIn (before ++ c ∷ [])) = rw (after-snoc emptyIn before c) (one-call name before l c k) in
+    let next : KeptAfter name (latestBy name before l c) (afterIn (before ++ c ∷ [])) = rw (after-snoc emptyIn before c) (one-call name before l c k) in
     rw (append-snoc before c cs) at (latest-from name cs (before ++ c ∷ []) (latestBy name before l c) next)
 
-latest-is : (name : List ℕ) (calls : List WorkspaceCall) → KeptIn name (latestKeep name calls) (afterIn calls)
+latest-is : (name : List ℕ) (calls : List WorkspaceCall) → KeptAfter name (latestKeep name calls) (afterIn calls)
 unfolding journalAfterIn keptUnder
 latest-is name calls = latest-from name calls [] none tt
 
@@ -175,7 +175,7 @@ unfolding journalStepIn journalSheet
 by-journal v w c e = ap (λ (j : Journal). journalStep j c .0) e
 
 -- to what is kept
-came-back : (before : List WorkspaceCall) (name : List ℕ) (ks : List Kept) (j : Journal) (o : Option (List Change)) → keptUnder name ks ≡ o
+came-back : (before : List WorkspaceCall) (name : List ℕ) (ks : List NamedEdits) (j : Journal) (o : Option (List Change)) → keptUnder name ks ≡ o
     → KeptAt name (some before) o j
     → (journalReturn j ks name .0 ≡ ok [] []) × (journalReturn j ks name .1 .journal ≡ afterIn before .journal)
 unfolding journalReturn
@@ -201,7 +201,7 @@ returns-to-latest calls before name e =
     }
 
 -- to nothing
-no-keep : (name : List ℕ) (ks : List Kept) (j : Journal) (o : Option (List Change)) → keptUnder name ks ≡ o → KeptAt name none o j
+no-keep : (name : List ℕ) (ks : List NamedEdits) (j : Journal) (o : Option (List Change)) → keptUnder name ks ≡ o → KeptAt name none o j
     → isAccepted (journalReturn j ks name .0 .outcome) ≡ false
 unfolding journalReturn
 no-keep name ks j (some edits) g k = absurd k

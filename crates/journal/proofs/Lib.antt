@@ -15,4 +15,4 @@ pub mod WorkspaceAgrees
 pub mod Latest
 pub mod Alone
 pub mod RefusalsIn
-pub mod KeptIn
+pub mod AnyWorkspace

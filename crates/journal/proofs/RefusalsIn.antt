@@ -14,7 +14,7 @@ use Rattle.laws.proofs.Tests.{neither, both, or-first, or-second}
 use Rattle.reading.specs.Outcome.{Outcome, refused}
 use Rattle.workspace.specs.Names.{isBadName}
 use Rattle.journal.specs.Journal.{Change, Journal, empty, holds, no, ended}
-use Rattle.journal.specs.WorkspaceJournal.{Kept, WorkspaceJournal, with, keptUnder, keepUnder, isKept, isNinth, WorkspaceCall, onSheet, keep, return, journalSheet, keepRefusal, journalKeep, backTo, journalReturn, journalStepIn}
+use Rattle.journal.specs.WorkspaceJournal.{NamedEdits, WorkspaceJournal, with, keptUnder, keepUnder, isKept, isNinth, WorkspaceCall, onSheet, keep, return, journalSheet, keepRefusal, journalKeep, returned, journalReturn, journalStepIn}
 use Rattle.journal.specs.WorkspaceClaim.{afterIn, BadName, GoodName, RefusesIn, ofSheet, emptyKeep, emptyReturn, badKeep, badReturn, ninth, noSuchName, RefusedExactlyIn}
 use Rattle.journal.proofs.Refusals.{never, told, says}
 use Rattle.journal.proofs.WorkspaceAgrees.{answers-in}
@@ -54,7 +54,7 @@ module _ (name : List ℕ) where
   unfolding isBadName
   good-of g = rw (ne-eqb (length name) 0 (λ e. omega (arith, g .some-bytes)), le-ltb 16 (length name) (g .not-long))
 
-  module _ (ks : List Kept) where
+  module _ (ks : List NamedEdits) where
     ninth-told : isNinth name ks ≡ true → (keptUnder name ks ≡ none) × (8 ≤ length ks)
     unfolding isNinth
     ninth-told e =
@@ -88,7 +88,7 @@ module _ (name : List ℕ) where
     return-told (holds f row) n e = by (isBadName name) (keptUnder name ks) refl refl e
       where
         by : (a : Bool) (o : Option (List Change)) → isBadName name ≡ a → keptUnder name ks ≡ o
-            → cond a (no 16 [], with (holds f row) ks) (backTo o f row ks) .0 .outcome ≡ refused n
+            → cond a (no 16 [], with (holds f row) ks) (returned o f row ks) .0 .outcome ≡ refused n
             → RefusesIn (with (holds f row) ks) (return name) n
         by true o p q y = same-number (badReturn (bad-told p)) y
         by false none p q y = same-number (noSuchName (good-told p) q) y

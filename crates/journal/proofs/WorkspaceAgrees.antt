@@ -29,7 +29,7 @@ use Rattle.workspace.proofs.Tests.{name-fits}
 use Rattle.journal.specs.Journal.{Change, Journal, holds, Answer, no, ok, ended, journalLoad}
 use Rattle.journal.specs.Calls.{Call, load, change, back, list, fit, journalStep}
 use Rattle.journal.specs.SheetCalls.{afterEdit, sheetStep}
-use Rattle.journal.specs.WorkspaceJournal.{Kept, WorkspaceJournal, with, emptyIn, keptUnder, keepUnder, isKept, isNinth, WorkspaceCall, onSheet, keep, return, journalSheet, keepRefusal, journalKeep, backTo, journalReturn, journalStepIn, runJournalIn, journalAfterIn}
+use Rattle.journal.specs.WorkspaceJournal.{NamedEdits, WorkspaceJournal, with, emptyIn, keptUnder, keepUnder, isKept, isNinth, WorkspaceCall, onSheet, keep, return, journalSheet, keepRefusal, journalKeep, returned, journalReturn, journalStepIn, runJournalIn, journalAfterIn}
 use Rattle.journal.specs.WorkspaceCalls.{sheetStepIn, workspaceStep, runWorkspace, workspaceAfter}
 use Rattle.journal.specs.WorkspaceClaim.{WorkspaceClaim, afterIn, answerIn, EightAtMost}
 use Rattle.journal.proofs.Claim.{loadOf, rowOf, journalOf, Held, Good, blank, held, usable-held, usable-blank, journal-held, journal-blank, loads, step}
@@ -39,7 +39,7 @@ use Rattle.journal.proofs.CheckpointPlaces.{keptOf, Fine, AllFine, fine
 abbrev pub inUse : Workspace → List Checkpoint
 inUse w = take (w .count) (w .checkpoints)
 
-abbrev pub namesOf : Workspace → List Kept
+abbrev pub namesOf : Workspace → List NamedEdits
 namesOf w = map keptOf (inUse w)
 
 abbrev pub journalIn : Workspace → WorkspaceJournal
@@ -67,7 +67,7 @@ in-use-length : (w : Workspace) → Places w → length (inUse w) ≡ w .count
 in-use-length w p = length-take-le (w .count) (w .checkpoints) (omega (arith, p .counted, p .placed))
 
 -- a name that is kept is no ninth; another is, where eight are kept
-module _ (name : List ℕ) (ks : List Kept) where
+module _ (name : List ℕ) (ks : List NamedEdits) where
   kept-no-ninth : (edits : List Change) → keptUnder name ks ≡ some edits → isNinth name ks ≡ false
   unfolding isNinth
   kept-no-ninth edits e = ap (λ (o : Option (List Change)). not (isKept o) && leb 8 (length ks)) e
@@ -81,8 +81,8 @@ module _ (name : List ℕ) (ks : List Kept) where
 abbrev before : Workspace → WorkspaceJournal
 before w = with (holds (loadOf (w .sheet)) (rowOf (w .sheet))) (namesOf w)
 
-abbrev keptIn : Workspace → List ℕ → WorkspaceJournal
-keptIn w name = with (holds (loadOf (w .sheet)) (rowOf (w .sheet))) (keepUnder name (rowOf (w .sheet)) (namesOf w))
+abbrev afterKeep : Workspace → List ℕ → WorkspaceJournal
+afterKeep w name = with (holds (loadOf (w .sheet)) (rowOf (w .sheet))) (keepUnder name (rowOf (w .sheet)) (namesOf w))
 
 module _ (w : Workspace) (h : Held (w .sheet)) (p : Places w) (name : List ℕ) where
   refuses-held : (n : ℕ) → AgreeIn (afterEdit (keptBy n w)) (no n [], before w)
@@ -111,7 +111,7 @@ module _ (w : Workspace) (h : Held (w .sheet)) (p : Places w) (name : List ℕ) 
 
     kept-again : (at : ℕ) → at < w .count
         → map keptOf (set (inUse w) at (checkpointOf (w .sheet) name)) ≡ keepUnder name (rowOf (w .sheet)) (namesOf w)
-        → AgreeIn (afterEdit (leaves (keepAt w name at))) (ok [] [], keptIn w name)
+        → AgreeIn (afterEdit (leaves (keepAt w name at))) (ok [] [], afterKeep w name)
     unfolding keepAt
     kept-again at a e =
         rw (lt-ltb at (w .count) a) (
@@ -123,7 +123,7 @@ module _ (w : Workspace) (h : Held (w .sheet)) (p : Places w) (name : List ℕ) 
 
     kept-new : (at : ℕ) → at ≡ w .count → at < 8
         → map keptOf (inUse w ++ checkpointOf (w .sheet) name ∷ []) ≡ keepUnder name (rowOf (w .sheet)) (namesOf w)
-        → AgreeIn (afterEdit (leaves (keepAt w name at))) (ok [] [], keptIn w name)
+        → AgreeIn (afterEdit (leaves (keepAt w name at))) (ok [] [], afterKeep w name)
     unfolding keepAt
     kept-new at c a e =
         rw (le-ltb at (w .count) (omega (arith, c))) (
@@ -141,7 +141,7 @@ module _ (w : Workspace) (h : Held (w .sheet)) (p : Places w) (name : List ℕ) 
 
     keep-found : (at : ℕ) → Found name (inUse w) at
         → AgreeIn (afterEdit (cond (ltb at 8) (leaves (keepAt w name at)) (keptBy 17 w)))
-        (ended (cond (isNinth name (namesOf w)) (some 17) none) (before w) (keptIn w name))
+        (ended (cond (isNinth name (namesOf w)) (some 17) none) (before w) (afterKeep w name))
     unfolding checkpointOf
     keep-found at (there a r s) =
         let i : at < w .count = omega (arith, a, in-use-length w p) in
@@ -154,7 +154,7 @@ module _ (w : Workspace) (h : Held (w .sheet)) (p : Places w) (name : List ℕ) 
       where
         by : at ≡ w .count → (at < 8) ⊎ (8 ≤ at)
             → AgreeIn (afterEdit (cond (ltb at 8) (leaves (keepAt w name at)) (keptBy 17 w)))
-            (ended (cond (leb 8 at) (some 17) none) (before w) (keptIn w name))
+            (ended (cond (leb 8 at) (some 17) none) (before w) (afterKeep w name))
         by c (inl a) =
             rw (lt-ltb at 8 a, lt-leb 8 at a) (kept-new at c a (s (checkpointOf (w .sheet) name) new-name))
         by c (inr a) = rw (le-ltb at 8 a, le-leb 8 at a) (refuses-held 17)
@@ -165,7 +165,7 @@ module _ (w : Workspace) (h : Held (w .sheet)) (p : Places w) (name : List ℕ) 
     where
       by : (b : Bool) → isBadName name ≡ b
           → AgreeIn (afterEdit (cond b (keptBy 16 w) (cond (ltb (placeOf w name) 8) (leaves (keepAt w name (placeOf w name))) (keptBy 17 w))))
-          (ended (cond b (some 16) (cond (isNinth name (namesOf w)) (some 17) none)) (before w) (keptIn w name))
+          (ended (cond b (some 16) (cond (isNinth name (namesOf w)) (some 17) none)) (before w) (afterKeep w name))
       by true e = refuses-held 16
       by false e = keep-found (name-fits name false (sym e) refl) (placeOf w name) found-at
 
@@ -194,7 +194,7 @@ module _ (w : Workspace) (h : Held (w .sheet)) (p : Places w) (name : List ℕ) 
 
   return-found : (at : ℕ) → Found name (inUse w) at
       → AgreeIn (afterEdit (cond (ltb at (w .count)) (leaves (returnAt w at)) (keptBy 18 w)))
-      (backTo (keptUnder name (namesOf w)) (loadOf (w .sheet)) (rowOf (w .sheet)) (namesOf w))
+      (returned (keptUnder name (namesOf w)) (loadOf (w .sheet)) (rowOf (w .sheet)) (namesOf w))
   return-found at (there a r s) =
       let i : at < w .count = omega (arith, a, in-use-length w p) in
       rw (r, lt-ltb at (w .count) i) (comes-back at i)
@@ -208,7 +208,7 @@ module _ (w : Workspace) (h : Held (w .sheet)) (p : Places w) (name : List ℕ) 
     where
       by : (b : Bool)
           → AgreeIn (afterEdit (cond b (keptBy 16 w) (cond (ltb (placeOf w name) (w .count)) (leaves (returnAt w (placeOf w name))) (keptBy 18 w))))
-          (cond b (no 16 [], before w) (backTo (keptUnder name (namesOf w)) (loadOf (w .sheet)) (rowOf (w .sheet)) (namesOf w)))
+          (cond b (no 16 [], before w) (returned (keptUnder name (namesOf w)) (loadOf (w .sheet)) (rowOf (w .sheet)) (namesOf w)))
       by true = refuses-held 16
       by false = return-found (placeOf w name) found-at
 

@@ -1,5 +1,5 @@
 -- 02, 2026-03: one claim over every list of a workspace's calls, and what follows from it. proofs/WorkspaceAgrees.antt proves the claim;
--- what follows is proved in proofs/Latest.antt (returns), Alone.antt (a workspace beside a sheet), RefusalsIn.antt and KeptIn.antt
+-- what follows is proved in proofs/Latest.antt (returns), Alone.antt (a workspace beside a sheet), RefusalsIn.antt and AnyWorkspace.antt
 -- (refused calls, and a workspace made by hand).
 use Prim.Native.Nat.{ℕ, _*_, _<_, _≤_}
 use mathlib.Core.Bool.{Bool, false, _&&_, cond}
@@ -20,7 +20,7 @@ use Rattle.journal.specs.Journal.{Change, Journal, empty, holds, present
 use Rattle.journal.specs.Calls.{Call, load, list, isLoad}
 use Rattle.journal.specs.SheetCalls.{runSheet}
 use Rattle.journal.specs.Claim.{after, answer, shown, PrimaryListed, Refuses}
-use Rattle.journal.specs.WorkspaceJournal.{Kept, WorkspaceJournal, with, emptyIn, keptUnder, WorkspaceCall, onSheet, keep, return, lentIn, runJournalIn, journalAfterIn}
+use Rattle.journal.specs.WorkspaceJournal.{NamedEdits, WorkspaceJournal, with, emptyIn, keptUnder, WorkspaceCall, onSheet, keep, return, lentIn, runJournalIn, journalAfterIn}
 use Rattle.journal.specs.WorkspaceCalls.{workspaceStep, runWorkspace, workspaceAfter}
 
 -- "A list of calls may now hold keeps and returns. The book holds the names too": each call of the list answers, and leaves the buffer,
@@ -116,20 +116,20 @@ pub record GoodName (name : List ℕ) : Type 0 where
 -- when a number is the lowest that applies to a call, from what the journal holds: to a call of the sheet as to the sheet alone; "16,
 -- name empty or too long; 17, a ninth name; 18, no such name; all after 7, in that order"
 pub data RefusesIn : WorkspaceJournal → WorkspaceCall → ℕ → Type 0 where
-  ofSheet : {j : Journal} {ks : List Kept} {c : Call} {n : ℕ} → Refuses j c n → RefusesIn (with j ks) (onSheet c) n
+  ofSheet : {j : Journal} {ks : List NamedEdits} {c : Call} {n : ℕ} → Refuses j c n → RefusesIn (with j ks) (onSheet c) n
   -- "sheet is empty"
-  emptyKeep : {ks : List Kept} {name : List ℕ} → RefusesIn (with empty ks) (keep name) 7
-  emptyReturn : {ks : List Kept} {name : List ℕ} → RefusesIn (with empty ks) (return name) 7
+  emptyKeep : {ks : List NamedEdits} {name : List ℕ} → RefusesIn (with empty ks) (keep name) 7
+  emptyReturn : {ks : List NamedEdits} {name : List ℕ} → RefusesIn (with empty ks) (return name) 7
   -- "name empty or too long"
-  badKeep : {f : Focus} {standing : List Change} {ks : List Kept} {name : List ℕ} → BadName name
+  badKeep : {f : Focus} {standing : List Change} {ks : List NamedEdits} {name : List ℕ} → BadName name
       → RefusesIn (with (holds f standing) ks) (keep name) 16
-  badReturn : {f : Focus} {standing : List Change} {ks : List Kept} {name : List ℕ} → BadName name
+  badReturn : {f : Focus} {standing : List Change} {ks : List NamedEdits} {name : List ℕ} → BadName name
       → RefusesIn (with (holds f standing) ks) (return name) 16
   -- "a ninth name": eight are kept, and this is none of them
-  ninth : {f : Focus} {standing : List Change} {ks : List Kept} {name : List ℕ} → GoodName name → keptUnder name ks ≡ none
+  ninth : {f : Focus} {standing : List Change} {ks : List NamedEdits} {name : List ℕ} → GoodName name → keptUnder name ks ≡ none
       → 8 ≤ length ks → RefusesIn (with (holds f standing) ks) (keep name) 17
   -- "no such name"
-  noSuchName : {f : Focus} {standing : List Change} {ks : List Kept} {name : List ℕ} → GoodName name → keptUnder name ks ≡ none
+  noSuchName : {f : Focus} {standing : List Change} {ks : List NamedEdits} {name : List ℕ} → GoodName name → keptUnder name ks ≡ none
       → RefusesIn (with (holds f standing) ks) (return name) 18
 
 -- a call is refused exactly when its refusals say

@@ -14,15 +14,15 @@ use Rattle.journal.specs.Journal.{Change, Journal, empty, holds, Answer,
 use Rattle.journal.specs.Calls.{Call, lent, isLoad, journalStep}
 
 -- a name, and the edits that stood at the latest accepted keep under it
-pub record Kept : Type 0 where
+pub record NamedEdits : Type 0 where
   pub name : List ℕ
   pub edits : List Change
 
 pub record WorkspaceJournal : Type 0 where
   pub journal : Journal
-  pub names : List Kept
+  pub names : List NamedEdits
 
-abbrev pub with : Journal → List Kept → WorkspaceJournal
+abbrev pub with : Journal → List NamedEdits → WorkspaceJournal
 with j names = record { journal = j; names = names }
 
 -- nothing is loaded and nothing kept
@@ -31,12 +31,12 @@ emptyIn = with empty []
 
 -- ---- names, which are bytes and compared exactly
 -- the edits kept under a name, if there are any
-unfoldable pub keptUnder : List ℕ → List Kept → Option (List Change)
+unfoldable pub keptUnder : List ℕ → List NamedEdits → Option (List Change)
 keptUnder name [] = none
 keptUnder name (k ∷ ks) = cond (same (k .name) name) (some (k .edits)) (keptUnder name ks)
 
 -- "Keep the standing edits under a name ..; a name kept again is replaced"
-unfoldable pub keepUnder : List ℕ → List Change → List Kept → List Kept
+unfoldable pub keepUnder : List ℕ → List Change → List NamedEdits → List NamedEdits
 keepUnder name edits [] = record { name = name; edits = edits } ∷ []
 keepUnder name edits (k ∷ ks) =
     cond (same (k .name) name) (record { name = name; edits = edits } ∷ ks) (k ∷ keepUnder name edits ks)
@@ -46,7 +46,7 @@ isKept none = false
 isKept (some edits) = true
 
 -- 17, "a ninth name": eight are kept, and this is none of them
-unfoldable pub isNinth : List ℕ → List Kept → Bool
+unfoldable pub isNinth : List ℕ → List NamedEdits → Bool
 isNinth name ks = not (isKept (keptUnder name ks)) && leb 8 (length ks)
 
 -- ---- how calls end
@@ -63,7 +63,7 @@ lentIn (keep name) = []
 lentIn (return name) = []
 
 -- "an accepted load clears all names"; no other call of the sheet changes them
-abbrev pub namesAfter : Call → Answer → List Kept → List Kept
+abbrev pub namesAfter : Call → Answer → List NamedEdits → List NamedEdits
 namesAfter c a ks = cond (isLoad c && isAccepted (a .outcome)) [] ks
 
 -- a call of the sheet is judged by the sheet's journal
@@ -74,23 +74,23 @@ journalSheet w c = (
 )
 
 -- "Errors: 16, name empty or too long; 17, a ninth name; 18, no such name; all after 7, in that order."
-unfoldable pub keepRefusal : List ℕ → List Kept → Option ℕ
+unfoldable pub keepRefusal : List ℕ → List NamedEdits → Option ℕ
 keepRefusal name ks = cond (isBadName name) (some 16) (cond (isNinth name ks) (some 17) none)
 
-unfoldable pub journalKeep : Journal → List Kept → List ℕ → Answer × WorkspaceJournal
+unfoldable pub journalKeep : Journal → List NamedEdits → List ℕ → Answer × WorkspaceJournal
 journalKeep empty ks name = (no 7 [], with empty ks)
 journalKeep (holds load standing) ks name =
     ended (keepRefusal name ks) (with (holds load standing) ks) (with (holds load standing) (keepUnder name standing ks))
 
 -- "Coming back makes the kept edits the standing ones"
-abbrev pub backTo : Option (List Change) → Focus → List Change → List Kept → Answer × WorkspaceJournal
-backTo none load standing ks = (no 18 [], with (holds load standing) ks)
-backTo (some edits) load standing ks = (ok [] [], with (holds load edits) ks)
+abbrev pub returned : Option (List Change) → Focus → List Change → List NamedEdits → Answer × WorkspaceJournal
+returned none load standing ks = (no 18 [], with (holds load standing) ks)
+returned (some edits) load standing ks = (ok [] [], with (holds load edits) ks)
 
-unfoldable pub journalReturn : Journal → List Kept → List ℕ → Answer × WorkspaceJournal
+unfoldable pub journalReturn : Journal → List NamedEdits → List ℕ → Answer × WorkspaceJournal
 journalReturn empty ks name = (no 7 [], with empty ks)
 journalReturn (holds load standing) ks name =
-    cond (isBadName name) (no 16 [], with (holds load standing) ks) (backTo (keptUnder name ks) load standing ks)
+    cond (isBadName name) (no 16 [], with (holds load standing) ks) (returned (keptUnder name ks) load standing ks)
 
 -- ---- lists of calls
 -- how a call ends, and the journal after it
