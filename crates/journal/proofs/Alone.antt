@@ -21,16 +21,16 @@ use Rattle.journal.specs.SheetCalls.{afterEdit, sheetStep, runSheet}
 use Rattle.journal.specs.Claim.{after}
 use Rattle.journal.specs.WorkspaceJournal.{NamedEdits, WorkspaceJournal, with, emptyIn, keptUnder, keepUnder, WorkspaceCall, onSheet, keep, return, namesAfter, journalSheet, keepRefusal, journalKeep, returned, journalReturn, journalStepIn, journalAfterIn}
 use Rattle.journal.specs.WorkspaceCalls.{sheetStepIn, workspaceStep, runWorkspace}
-use Rattle.journal.specs.WorkspaceClaim.{SheetAlone, AsSomeSheet, PrimaryIsListedIn, ListsExactlyIn}
+use Rattle.journal.specs.WorkspaceClaim.{SheetAlone, SheetsOwnCalls, AsSomeSheet, PrimaryIsListedIn, ListsExactlyIn}
 use Rattle.journal.proofs.Answers.{answers, after-append}
 use Rattle.journal.proofs.Shown.{lists-exactly, primary-is-listed}
-use Rattle.journal.proofs.WorkspaceAgrees.{answers-in}
+use Rattle.journal.proofs.WorkspaceAgrees.{answers-in, after-snoc}
 
 -- ---- the sheet's part of a call
-pub record Part (r : Answer × Workspace) (s : Answer × Sheet) : Type 0 where
-  pub answer : r .0 ≡ s .0
-  pub sheet : r .1 .sheet ≡ s .1
-  pub counted : isCounted (r .1) ≡ true
+record Part (r : Answer × Workspace) (s : Answer × Sheet) : Type 0 where
+  answer : r .0 ≡ s .0
+  sheet : r .1 .sheet ≡ s .1
+  counted : isCounted (r .1) ≡ true
 
 load-part : (w : Workspace) → isCounted w ≡ true → (o : Outcome Focus) → Part (afterEdit (loadIn w o)) (afterEdit (loadSheet (w .sheet) o))
 unfolding loadIn withoutNames loadSheet
@@ -56,6 +56,13 @@ alone-from (c ∷ cs) w k =
 pub sheet-alone : SheetAlone
 unfolding withoutNames
 sheet-alone calls = alone-from calls freshWorkspace refl
+
+pub sheets-own-calls : SheetsOwnCalls
+unfolding journalStepIn journalSheet
+sheets-own-calls calls c = record {
+  answers = answers-in calls (onSheet c);
+  leaves = ap (λ (w : WorkspaceJournal). w .journal) (after-snoc emptyIn calls (onSheet c));
+}
 
 -- ---- what a sheet's calls alone lead to
 record Reached (j : Journal) : Type 0 where
@@ -166,14 +173,13 @@ unfolding journalAfter
 none-yet = (record { by-calls = []; reaches = refl }, tt)
 
 pub as-some-sheet : AsSomeSheet
-unfolding journalStepIn journalSheet
 as-some-sheet calls =
     let r = all-reached calls emptyIn none-yet .0 in
     record {
       alone = r .by-calls;
       same-journal = r .reaches;
       same-answers = λ c.
-          answers-in calls (onSheet c)
+          sheets-own-calls calls c .answers
           ∙ ap (λ (j : Journal). journalStep j c .0) (sym (r .reaches))
           ∙ sym (answers (r .by-calls) c);
     }

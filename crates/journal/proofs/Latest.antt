@@ -1,14 +1,12 @@
--- Returns. After every list of calls what the journal keeps under a name is what stood at the latest accepted keep under it since the last
--- accepted load, of the same load (`KeptAt`): by induction over the list, call by call. Assumes nothing.
+-- Keeps and returns. After every list of calls what the journal keeps under a name is what stood at the latest accepted keep under it since the last
+-- accepted load, of the same load (`KeptAt`): by induction over the list, call by call. A keep leaves the sheet's journal as it is. Assumes
+-- nothing.
 use Prim.Native.Nat.{ℕ}
-use mathlib.Core.Bool.{Bool, true, false, _&&_, cond, false≢true}
+use mathlib.Core.Bool.{Bool, true, false, _&&_, cond}
 use mathlib.Core.List.{List, [], _∷_, _++_, append-nil}
 use mathlib.Core.Option.{Option, none, some}
-use mathlib.Core.Path.{_≡_, refl, sym, ap, ap₂, _∙_}
-use lib.Dec.{eqb}
+use mathlib.Core.Path.{_≡_, refl, sym, ap, _∙_}
 use lib.Seq.{append-snoc}
-use borrow.Author.Tests.{eqb-true, eq-eqb}
-use Rattle.laws.proofs.Tests.{both}
 use Rattle.numbers.specs.Bytes.{same}
 use Rattle.reading.specs.Outcome.{Outcome, refused, accepted, isAccepted}
 use Rattle.placing.specs.Focus.{focusOf}
@@ -17,54 +15,9 @@ use Rattle.workspace.specs.Names.{isBadName}
 use Rattle.journal.specs.Journal.{Change, Journal, empty, holds, Answer, no, ok, ended, changeRefusal, backRefusal, journalLoad, journalChange, journalBack}
 use Rattle.journal.specs.Calls.{Call, load, change, back, list, fit, isLoad, journalStep}
 use Rattle.journal.specs.WorkspaceJournal.{NamedEdits, WorkspaceJournal, with, emptyIn, keptUnder, keepUnder, isNinth, WorkspaceCall, onSheet, keep, return, namesAfter, journalSheet, keepRefusal, journalKeep, returned, journalReturn, journalStepIn, journalAfterIn}
-use Rattle.journal.specs.WorkspaceClaim.{afterIn, latestBy, latestFrom, latestKeep, ReturnsToLatest, NoKeepNoReturn}
-use Rattle.journal.proofs.WorkspaceAgrees.{answers-in}
-
-pub after-snoc : (w : WorkspaceJournal) (cs : List WorkspaceCall) (c : WorkspaceCall) → journalAfterIn w (cs ++ c ∷ []) ≡ journalStepIn (journalAfterIn w cs) c .1
-unfolding journalAfterIn
-after-snoc w [] c = refl
-after-snoc w (d ∷ cs) c = after-snoc (journalStepIn w d .1) cs c
-
--- ---- names
-same-true : (a b : List ℕ) → same a b ≡ true → a ≡ b
-unfolding same
-same-true [] [] e = refl
-same-true [] (y ∷ ys) e = absurd (false≢true e)
-same-true (x ∷ xs) [] e = absurd (false≢true e)
-same-true (x ∷ xs) (y ∷ ys) e =
-    let d = both (eqb x y) (same xs ys) e in
-    ap₂ (λ (z : ℕ) (zs : List ℕ). z ∷ zs) (eqb-true x y (d .0)) (same-true xs ys (d .1))
-
-same-self : (a : List ℕ) → same a a ≡ true
-unfolding same
-same-self [] = refl
-same-self (x ∷ xs) = rw (eq-eqb x x refl) (same-self xs)
-
--- of two names that differ one at most is a third
-same-both : (k m n : List ℕ) → same k m ≡ false → same m n ≡ true → same k n ≡ false
-same-both k m n d e = by (same k n) refl
-  where
-    by : (b : Bool) → same k n ≡ b → b ≡ false
-    by false g = refl
-    by true g =
-        let f : same k m ≡ true = ap₂ same (same-true k n g) (same-true m n e) ∙ same-self n in
-        absurd (false≢true (sym d ∙ f))
-
--- what is kept under a name after a keep under another, or the same
-kept-after : (n m : List ℕ) (edits : List Change) (ks : List NamedEdits)
-    → keptUnder n (keepUnder m edits ks) ≡ cond (same m n) (some edits) (keptUnder n ks)
-unfolding keptUnder keepUnder
-kept-after n m edits [] = refl
-kept-after n m edits (k ∷ ks) = by (kept-after n m edits ks) (same (k .name) m) refl (same m n) refl
-  where
-    by : keptUnder n (keepUnder m edits ks) ≡ cond (same m n) (some edits) (keptUnder n ks)
-        → (a : Bool) → same (k .name) m ≡ a → (b : Bool) → same m n ≡ b
-        → keptUnder n (cond a (record { name = m; edits = edits } ∷ ks) (k ∷ keepUnder m edits ks))
-        ≡ cond b (some edits) (cond (same (k .name) n) (some (k .edits)) (keptUnder n ks))
-    by r true e true g = rw g
-    by r true e false g = rw (g, same-true (k .name) m e, g)
-    by r false e true g = rw (same-both (k .name) m n e g, r, g)
-    by r false e false g = rw (r, g)
+use Rattle.journal.specs.WorkspaceClaim.{afterIn, latestBy, latestFrom, latestKeep, ReturnsToLatest, NoKeepNoReturn, KeepIsNoEdit}
+use Rattle.journal.proofs.KeptNames.{same-true, kept-after}
+use Rattle.journal.proofs.WorkspaceAgrees.{answers-in, after-snoc}
 
 -- ---- the latest keep, beside what is kept
 -- of a name: the calls before its latest keep, the edits kept under it, and what the journal holds
@@ -170,7 +123,7 @@ latest-is name calls = latest-from name calls [] none tt
 
 -- ---- returns
 -- a call of the sheet is answered by what the journal holds, whatever names it has
-pub by-journal : (v w : WorkspaceJournal) (c : Call) → v .journal ≡ w .journal → journalStepIn v (onSheet c) .0 ≡ journalStepIn w (onSheet c) .0
+by-journal : (v w : WorkspaceJournal) (c : Call) → v .journal ≡ w .journal → journalStepIn v (onSheet c) .0 ≡ journalStepIn w (onSheet c) .0
 unfolding journalStepIn journalSheet
 by-journal v w c e = ap (λ (j : Journal). journalStep j c .0) e
 
@@ -218,3 +171,23 @@ no-keep-no-return calls name e =
     let w = afterIn calls in
     rw (answers-in calls (return name))
     (no-keep name (w .names) (w .journal) (keptUnder name (w .names)) refl (rw e at (latest-is name calls)))
+
+-- ---- keeps
+keep-journal : (j : Journal) (ks : List NamedEdits) (name : List ℕ) → journalKeep j ks name .1 .journal ≡ j
+unfolding journalKeep
+keep-journal empty ks name = refl
+keep-journal (holds f row) ks name = by (keepRefusal name ks)
+  where
+    by : (o : Option ℕ) → ended o (with (holds f row) ks) (with (holds f row) (keepUnder name row ks)) .1 .journal ≡ holds f row
+    by none = refl
+    by (some n) = refl
+
+pub keep-is-no-edit : KeepIsNoEdit
+unfolding journalStepIn
+keep-is-no-edit calls name c =
+    let w = afterIn calls in
+    let stays : afterIn (calls ++ keep name ∷ []) .journal ≡ w .journal =
+    ap (λ (v : WorkspaceJournal). v .journal) (after-snoc emptyIn calls (keep name)) ∙ keep-journal (w .journal) (w .names) name in
+    answers-in (calls ++ keep name ∷ []) (onSheet c)
+    ∙ by-journal (afterIn (calls ++ keep name ∷ [])) w c stays
+    ∙ sym (answers-in calls (onSheet c))

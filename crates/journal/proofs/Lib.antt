@@ -12,6 +12,7 @@ pub mod Orientations
 pub mod Example
 pub mod CheckpointPlaces
 pub mod WorkspaceAgrees
+pub mod KeptNames
 pub mod Latest
 pub mod Alone
 pub mod RefusalsIn

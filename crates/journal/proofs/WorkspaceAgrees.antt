@@ -14,7 +14,7 @@ use native.Mathlib.Omega.{arith}
 use native.Mathlib.Numerals.{add-one}
 use borrow.Author.Tests.{lt-ltb, le-ltb, le-leb, lt-leb}
 use Rattle.laws.proofs.Tests.{by-order}
-use Rattle.reading.specs.Outcome.{Outcome, refused, accepted, isAccepted}
+use Rattle.reading.specs.Outcome.{Outcome, refused, accepted}
 use Rattle.placing.specs.Focus.{focusOf}
 use Rattle.placing.specs.Load.{Focus}
 use Rattle.placing.specs.Sound.{Sound}
@@ -24,12 +24,12 @@ use Rattle.sheet.specs.Sheet.{leaves, keptBy, freshSheet, loadedSheet, loadShee
 use Rattle.workspace.specs.declared.Checkpoint.{Checkpoint}
 use Rattle.workspace.specs.declared.Workspace.{Workspace}
 use Rattle.workspace.specs.Names.{isBadName}
-use Rattle.workspace.specs.Workspace.{noCheckpoint, withoutNames, freshWorkspace, loadIn, withSheet, isCounted, editIn, listOutcomeIn, listBufferIn, fitOutcomeIn, fitBufferIn, ifNamed, placeOf, checkpointOf, keepAt, keepIn, returnAt, returnIn}
+use Rattle.workspace.specs.Workspace.{noCheckpoint, withoutNames, freshWorkspace, loadIn, withSheet, isCounted, usableIn, editIn, listOutcomeIn, listBufferIn, fitOutcomeIn, fitBufferIn, ifNamed, placeOf, checkpointOf, keepAt, keepIn, returnAt, returnIn}
 use Rattle.workspace.proofs.Tests.{name-fits}
 use Rattle.journal.specs.Journal.{Change, Journal, holds, Answer, no, ok, ended, journalLoad}
-use Rattle.journal.specs.Calls.{Call, load, change, back, list, fit, journalStep}
+use Rattle.journal.specs.Calls.{Call, load, change, back, list, fit, isLoad, journalStep}
 use Rattle.journal.specs.SheetCalls.{afterEdit, sheetStep}
-use Rattle.journal.specs.WorkspaceJournal.{NamedEdits, WorkspaceJournal, with, emptyIn, keptUnder, keepUnder, isKept, isNinth, WorkspaceCall, onSheet, keep, return, journalSheet, keepRefusal, journalKeep, returned, journalReturn, journalStepIn, runJournalIn, journalAfterIn}
+use Rattle.journal.specs.WorkspaceJournal.{NamedEdits, WorkspaceJournal, with, emptyIn, keptUnder, keepUnder, isKept, isNinth, WorkspaceCall, onSheet, keep, return, namesAfter, journalSheet, keepRefusal, journalKeep, returned, journalReturn, journalStepIn, runJournalIn, journalAfterIn}
 use Rattle.journal.specs.WorkspaceCalls.{sheetStepIn, workspaceStep, runWorkspace, workspaceAfter}
 use Rattle.journal.specs.WorkspaceClaim.{WorkspaceClaim, afterIn, answerIn, EightAtMost}
 use Rattle.journal.proofs.Claim.{loadOf, rowOf, journalOf, Held, Good, blank, held, usable-held, usable-blank, journal-held, journal-blank, loads, step}
@@ -58,6 +58,12 @@ AgreeIn r o = (r .0 ≡ o .0) × (journalIn (r .1) ≡ o .1) × Good (r .1 .shee
 counted-in : (w : Workspace) → Places w → isCounted w ≡ true
 counted-in w p = le-leb (w .count) 8 (p .counted)
 
+usable-held-in : (w : Workspace) → Held (w .sheet) → Places w → usableIn w ≡ true
+usable-held-in w h p = rw (counted-in w p, usable-held (w .sheet) h)
+
+usable-blank-in : (w : Workspace) → w .sheet .loaded ≡ false → Places w → usableIn w ≡ false
+usable-blank-in w e p = rw (counted-in w p, usable-blank (w .sheet) e)
+
 -- a refused call
 refuses : (w : Workspace) → Good (w .sheet) → Places w → (n : ℕ) (j : Journal) → journalOf (w .sheet) ≡ j
     → AgreeIn (afterEdit (keptBy n w)) (no n [], with j (namesOf w))
@@ -75,6 +81,15 @@ module _ (name : List ℕ) (ks : List NamedEdits) where
   new-is-ninth : keptUnder name ks ≡ none → isNinth name ks ≡ leb 8 (length ks)
   unfolding isNinth
   new-is-ninth e = ap (λ (o : Option (List Change)). not (isKept o) && leb 8 (length ks)) e
+
+  -- 16 before 17
+  bad-first : isBadName name ≡ true → keepRefusal name ks ≡ some 16
+  unfolding keepRefusal
+  bad-first e = ap (λ (b : Bool). cond b (some 16) (cond (isNinth name ks) (some 17) none)) e
+
+  then-ninth : isBadName name ≡ false → keepRefusal name ks ≡ cond (isNinth name ks) (some 17) none
+  unfolding keepRefusal
+  then-ninth e = ap (λ (b : Bool). cond b (some 16) (cond (isNinth name ks) (some 17) none)) e
 
 -- ---- keep and return on a loaded sheet
 -- the journal before, and after a keep
@@ -160,14 +175,16 @@ module _ (w : Workspace) (h : Held (w .sheet)) (p : Places w) (name : List ℕ) 
         by c (inr a) = rw (le-ltb at 8 a, le-leb 8 at a) (refuses-held 17)
 
   keeps : AgreeIn (afterEdit (keepIn w name)) (journalKeep (holds (loadOf (w .sheet)) (rowOf (w .sheet))) (namesOf w) name)
-  unfolding keepIn ifNamed journalKeep keepRefusal
-  keeps = rw (counted-in w p, usable-held (w .sheet) h) (by (isBadName name) refl)
+  unfolding keepIn ifNamed journalKeep
+  keeps = rw (usable-held-in w h p) (by (isBadName name) refl)
     where
       by : (b : Bool) → isBadName name ≡ b
           → AgreeIn (afterEdit (cond b (keptBy 16 w) (cond (ltb (placeOf w name) 8) (leaves (keepAt w name (placeOf w name))) (keptBy 17 w))))
-          (ended (cond b (some 16) (cond (isNinth name (namesOf w)) (some 17) none)) (before w) (afterKeep w name))
-      by true e = refuses-held 16
-      by false e = keep-found (name-fits name false (sym e) refl) (placeOf w name) found-at
+          (ended (keepRefusal name (namesOf w)) (before w) (afterKeep w name))
+      by true e = rw (bad-first name (namesOf w) e) (refuses-held 16)
+      by false e =
+          rw (then-ninth name (namesOf w) e)
+          (keep-found (name-fits name false (sym e) refl) (placeOf w name) found-at)
 
   -- the edits of a place are the standing ones
   comes-back : (at : ℕ) → at < w .count
@@ -204,7 +221,7 @@ module _ (w : Workspace) (h : Held (w .sheet)) (p : Places w) (name : List ℕ) 
 
   returns : AgreeIn (afterEdit (returnIn w name)) (journalReturn (holds (loadOf (w .sheet)) (rowOf (w .sheet))) (namesOf w) name)
   unfolding returnIn ifNamed journalReturn
-  returns = rw (counted-in w p, usable-held (w .sheet) h) (by (isBadName name))
+  returns = rw (usable-held-in w h p) (by (isBadName name))
     where
       by : (b : Bool)
           → AgreeIn (afterEdit (cond b (keptBy 16 w) (cond (ltb (placeOf w name) (w .count)) (leaves (returnAt w (placeOf w name))) (keptBy 18 w))))
@@ -217,32 +234,45 @@ module _ (w : Workspace) (p : Places w) (name : List ℕ) where
   keep-step : Good (w .sheet) → AgreeIn (afterEdit (keepIn w name)) (journalKeep (journalOf (w .sheet)) (namesOf w) name)
   unfolding keepIn ifNamed journalKeep
   keep-step (blank e) =
-      rw (counted-in w p, usable-blank (w .sheet) e, journal-blank (w .sheet) e) (refl, refl, blank e, p)
+      rw (usable-blank-in w e p, journal-blank (w .sheet) e) (refl, refl, blank e, p)
   keep-step (held h) = rw (journal-held (w .sheet) h) (keeps w h p name)
 
   return-step : Good (w .sheet) → AgreeIn (afterEdit (returnIn w name)) (journalReturn (journalOf (w .sheet)) (namesOf w) name)
   unfolding returnIn ifNamed journalReturn
   return-step (blank e) =
-      rw (counted-in w p, usable-blank (w .sheet) e, journal-blank (w .sheet) e) (refl, refl, blank e, p)
+      rw (usable-blank-in w e p, journal-blank (w .sheet) e) (refl, refl, blank e, p)
   return-step (held h) = rw (journal-held (w .sheet) h) (returns w h p name)
 
 -- ---- a call of the sheet
+-- "an accepted load clears all names", a refused one none
+loaded-names : (c : Call) → isLoad c ≡ true → (ks : List NamedEdits) → namesAfter c (ok [] []) ks ≡ []
+loaded-names c l ks = ap (λ (b : Bool). cond (b && true) [] ks) l
+
+refused-names : (c : Call) (n : ℕ) (ks : List NamedEdits) → namesAfter c (no n []) ks ≡ ks
+refused-names c n ks = by (isLoad c)
+  where
+    by : (b : Bool) → cond (b && false) [] ks ≡ ks
+    by true = refl
+    by false = refl
+
 fresh-places : (s : Sheet) → Places (withoutNames s)
 unfolding withoutNames
 fresh-places s = record { counted = omega arith; placed = refl; fine = fresh-fine }
 
-pub loads-in : (w : Workspace) → Good (w .sheet) → Places w → (o : Outcome Focus) → Sound o
+loads-in : (w : Workspace) → Good (w .sheet) → Places w → (c : Call) → isLoad c ≡ true → (o : Outcome Focus) → Sound o
     → AgreeIn (afterEdit (loadIn w o)) (
       journalLoad (journalOf (w .sheet)) o .0,
-      with (journalLoad (journalOf (w .sheet)) o .1) (cond (isAccepted (journalLoad (journalOf (w .sheet)) o .0 .outcome)) [] (namesOf w)),
+      with (journalLoad (journalOf (w .sheet)) o .1) (namesAfter c (journalLoad (journalOf (w .sheet)) o .0) (namesOf w)),
     )
 unfolding loadIn withoutNames loadSheet journalLoad
-loads-in w g p (refused n) d =
+loads-in w g p c l (refused n) d =
     let a = loads (w .sheet) g (refused n) d in
-    (a .0, ap (λ (j : Journal). with j (namesOf w)) (a .1), a .2, p)
-loads-in w g p (accepted f) d =
+    let e : namesAfter c (no n []) (namesOf w) ≡ namesOf w = refused-names c n (namesOf w) in
+    rw e (a .0, ap (λ (j : Journal). with j (namesOf w)) (a .1), a .2, p)
+loads-in w g p c l (accepted f) d =
     let a = loads (w .sheet) g (accepted f) d in
-    (a .0, ap (λ (j : Journal). with j []) (a .1), a .2, fresh-places (loadedSheet f))
+    let e : namesAfter c (ok [] []) (namesOf w) ≡ [] = loaded-names c l (namesOf w) in
+    rw e (a .0, ap (λ (j : Journal). with j []) (a .1), a .2, fresh-places (loadedSheet f))
 
 passes : (w : Workspace) → Good (w .sheet) → Places w → (c : Call)
     → AgreeIn (sheetStep (w .sheet) c .0, withSheet w (sheetStep (w .sheet) c .1))
@@ -258,20 +288,20 @@ passes w g p c =
 sheet-step : (w : Workspace) → Good (w .sheet) → Places w → (c : Call) → AgreeIn (sheetStepIn w c) (journalSheet (journalIn w) c)
 unfolding sheetStepIn sheetStep journalSheet journalStep editIn listOutcomeIn listBufferIn fitOutcomeIn fitBufferIn
 sheet-step w g p (load block raw picture model) =
-    loads-in w g p (focusOf block raw picture model) (focus-sound block raw picture model)
+    loads-in w g p (load block raw picture model) refl (focusOf block raw picture model) (focus-sound block raw picture model)
 sheet-step w g p (change c) = rw (counted-in w p) (passes w g p (change c))
 sheet-step w g p back = rw (counted-in w p) (passes w g p back)
 sheet-step w g p (list buffer) = rw (counted-in w p) (passes w g p (list buffer))
 sheet-step w g p (fit box buffer) = rw (counted-in w p) (passes w g p (fit box buffer))
 
 -- ---- any call, any list of calls
-pub step-in : (w : Workspace) → Good (w .sheet) → Places w → (c : WorkspaceCall) → AgreeIn (workspaceStep w c) (journalStepIn (journalIn w) c)
+step-in : (w : Workspace) → Good (w .sheet) → Places w → (c : WorkspaceCall) → AgreeIn (workspaceStep w c) (journalStepIn (journalIn w) c)
 unfolding workspaceStep journalStepIn
 step-in w g p (onSheet c) = sheet-step w g p c
 step-in w g p (keep name) = keep-step w p name g
 step-in w g p (return name) = return-step w p name g
 
-pub runs-in : (cs : List WorkspaceCall) (w : Workspace) → Good (w .sheet) → Places w → runWorkspace w cs ≡ runJournalIn (journalIn w) cs
+runs-in : (cs : List WorkspaceCall) (w : Workspace) → Good (w .sheet) → Places w → runWorkspace w cs ≡ runJournalIn (journalIn w) cs
 unfolding runWorkspace runJournalIn
 runs-in [] w g p = refl
 runs-in (c ∷ cs) w g p =
@@ -280,14 +310,14 @@ runs-in (c ∷ cs) w g p =
     (runs-in cs (workspaceStep w c .1) (a .2) (a .3) ∙ ap (λ (j : WorkspaceJournal). runJournalIn j cs) (a .1))
 
 -- the fresh workspace
-pub fresh-good : Good (freshWorkspace .sheet)
+fresh-good : Good (freshWorkspace .sheet)
 unfolding withoutNames freshSheet
 fresh-good = blank refl
 
-pub fresh-in : Places freshWorkspace
+fresh-in : Places freshWorkspace
 fresh-in = fresh-places freshSheet
 
-pub fresh-journal : journalIn freshWorkspace ≡ emptyIn
+fresh-journal : journalIn freshWorkspace ≡ emptyIn
 unfolding withoutNames freshSheet
 fresh-journal = refl
 
@@ -297,10 +327,10 @@ workspace-claim calls =
 
 -- ---- after any list of calls
 -- the workspace stands for the journal
-pub record Follows (w : Workspace) (j : WorkspaceJournal) : Type 0 where
-  pub same : journalIn w ≡ j
-  pub good : Good (w .sheet)
-  pub places : Places w
+record Follows (w : Workspace) (j : WorkspaceJournal) : Type 0 where
+  same : journalIn w ≡ j
+  good : Good (w .sheet)
+  places : Places w
 
 follows : (cs : List WorkspaceCall) (w : Workspace) → Good (w .sheet) → Places w
     → Follows (workspaceAfter w cs) (journalAfterIn (journalIn w) cs)
@@ -311,7 +341,7 @@ follows (c ∷ cs) w g p =
     let f = follows cs (workspaceStep w c .1) (a .2) (a .3) in
     record { same = f .same ∙ ap (λ (j : WorkspaceJournal). journalAfterIn j cs) (a .1); good = f .good; places = f .places }
 
-pub follows-in : (calls : List WorkspaceCall) → Follows (workspaceAfter freshWorkspace calls) (afterIn calls)
+follows-in : (calls : List WorkspaceCall) → Follows (workspaceAfter freshWorkspace calls) (afterIn calls)
 follows-in calls =
     let f = follows calls freshWorkspace fresh-good fresh-in in
     record { same = f .same ∙ ap (λ (j : WorkspaceJournal). journalAfterIn j calls) fresh-journal; good = f .good; places = f .places }
@@ -330,3 +360,9 @@ eight-at-most calls =
     let long : length (namesOf w) ≡ w .count = length-map (inUse w) keptOf ∙ in-use-length w (f .places) in
     let e : length (afterIn calls .names) ≡ w .count = ap (λ (j : WorkspaceJournal). length (j .names)) (sym (f .same)) ∙ long in
     omega (arith, e, f .places .counted)
+
+-- one call more
+pub after-snoc : (w : WorkspaceJournal) (cs : List WorkspaceCall) (c : WorkspaceCall) → journalAfterIn w (cs ++ c ∷ []) ≡ journalStepIn (journalAfterIn w cs) c .1
+unfolding journalAfterIn
+after-snoc w [] c = refl
+after-snoc w (d ∷ cs) c = after-snoc (journalStepIn w d .1) cs c

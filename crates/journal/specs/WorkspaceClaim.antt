@@ -1,8 +1,8 @@
--- 02, 2026-03: one claim over every list of a workspace's calls, and what follows from it. proofs/WorkspaceAgrees.antt proves the claim;
--- what follows is proved in proofs/Latest.antt (returns), Alone.antt (a workspace beside a sheet), RefusalsIn.antt and AnyWorkspace.antt
--- (refused calls, and a workspace made by hand).
+-- 02, 2026-03: one claim over every list of a workspace's calls, and what follows from it. proofs/WorkspaceAgrees.antt proves the claim,
+-- and `EightAtMost`; what else follows is proved in proofs/Latest.antt (keeps and returns), KeptNames.antt (names), Alone.antt (a workspace
+-- beside a sheet), RefusalsIn.antt and AnyWorkspace.antt (refused calls, and a workspace made by hand).
 use Prim.Native.Nat.{ℕ, _*_, _<_, _≤_}
-use mathlib.Core.Bool.{Bool, false, _&&_, cond}
+use mathlib.Core.Bool.{Bool, true, false, _&&_, cond}
 use mathlib.Core.List.{List, [], _∷_, _++_, map}
 use mathlib.Core.Logic.{_↔_, _⊎_}
 use mathlib.Core.Option.{Option, none, some}
@@ -17,7 +17,7 @@ use Rattle.sheet.specs.Sheet.{freshSheet}
 use Rattle.workspace.specs.declared.Workspace.{Workspace}
 use Rattle.workspace.specs.Workspace.{freshWorkspace}
 use Rattle.journal.specs.Journal.{Change, Journal, empty, holds, presentFrame, Answer, no, ok, numbers, head}
-use Rattle.journal.specs.Calls.{Call, load, list, isLoad}
+use Rattle.journal.specs.Calls.{Call, load, list, isLoad, journalStep}
 use Rattle.journal.specs.SheetCalls.{runSheet}
 use Rattle.journal.specs.Claim.{after, answer, shown, PrimaryListed, Refuses}
 use Rattle.journal.specs.WorkspaceJournal.{NamedEdits, WorkspaceJournal, with, emptyIn, keptUnder, WorkspaceCall, onSheet, keep, return, lentIn, runJournalIn, journalAfterIn}
@@ -54,7 +54,7 @@ latestKeep name calls = latestFrom name [] none calls
 
 -- a return to the keep that came after the calls `before`: it is accepted; the load and the standing edits are those of then; every
 -- call of the sheet is answered as it would have been then
-pub record ComesBack (calls before : List WorkspaceCall) (name : List ℕ) : Type 0 where
+pub record StandsAgain (calls before : List WorkspaceCall) (name : List ℕ) : Type 0 where
   pub accepts : answerIn calls (return name) ≡ ok [] []
   pub stands : afterIn (calls ++ return name ∷ []) .journal ≡ afterIn before .journal
   pub answers : (c : Call) → answerIn (calls ++ return name ∷ []) (onSheet c) ≡ answerIn before (onSheet c)
@@ -62,13 +62,32 @@ pub record ComesBack (calls before : List WorkspaceCall) (name : List ℕ) : Typ
 -- "the standing edits after a return are those that stood at the latest accepted keep under that name"
 abbrev pub ReturnsToLatest : Type 0
 ReturnsToLatest =
-    (calls before : List WorkspaceCall) (name : List ℕ) → latestKeep name calls ≡ some before → ComesBack calls before name
+    (calls before : List WorkspaceCall) (name : List ℕ) → latestKeep name calls ≡ some before → StandsAgain calls before name
 
 -- without such a keep there is no coming back
 abbrev pub NoKeepNoReturn : Type 0
 NoKeepNoReturn =
     (calls : List WorkspaceCall) (name : List ℕ) → latestKeep name calls ≡ none →
     isAccepted (answerIn calls (return name) .outcome) ≡ false
+
+-- a keep is no edit: accepted or not, every call of the sheet is answered after it as it would have been before
+abbrev pub KeepIsNoEdit : Type 0
+KeepIsNoEdit =
+    (calls : List WorkspaceCall) (name : List ℕ) (c : Call) →
+    answerIn (calls ++ keep name ∷ []) (onSheet c) ≡ answerIn calls (onSheet c)
+
+-- ---- names
+-- names are bytes, and compared exactly
+abbrev pub ComparedExactly : Type 0
+ComparedExactly = (a b : List ℕ) → (same a b ≡ true) ↔ (a ≡ b)
+
+-- "a name kept again is replaced": no name is kept twice, so that eight are eight different ones
+unfoldable pub Differ : List NamedEdits → Type 0
+Differ [] = Unit
+Differ (k ∷ ks) = (keptUnder (k .name) ks ≡ none) × Differ ks
+
+abbrev pub NamesDiffer : Type 0
+NamesDiffer = (calls : List WorkspaceCall) → Differ (afterIn calls .names)
 
 -- "at most eight names"
 abbrev pub EightAtMost : Type 0
@@ -78,6 +97,14 @@ EightAtMost = (calls : List WorkspaceCall) → length (afterIn calls .names) ≤
 -- a list without keeps and returns answers as the sheet alone does
 abbrev pub SheetAlone : Type 0
 SheetAlone = (calls : List Call) → runWorkspace freshWorkspace (map onSheet calls) ≡ runSheet freshSheet calls
+
+-- whatever is kept, a call of the sheet is judged by the sheet's journal alone, and leaves it as it does alone
+pub record AsOnSheet (calls : List WorkspaceCall) (c : Call) : Type 0 where
+  pub answers : answerIn calls (onSheet c) ≡ journalStep (afterIn calls .journal) c .0
+  pub leaves : afterIn (calls ++ onSheet c ∷ []) .journal ≡ journalStep (afterIn calls .journal) c .1
+
+abbrev pub SheetsOwnCalls : Type 0
+SheetsOwnCalls = (calls : List WorkspaceCall) (c : Call) → AsOnSheet calls c
 
 -- after any list of calls the workspace's sheet is one that a sheet's calls alone lead to, and answers as that one does; so all that is
 -- said of a sheet after calls holds of it

@@ -1,5 +1,6 @@
 -- 02, 2026-03 "Named stands": "The book holds the names too". The journal of a workspace is that of its sheet with the kept names. It is
--- fed the calls alone, and of the workspace it knows nothing: no places and no counts.
+-- fed the calls alone, and of the workspace it knows nothing: no places and no counts. The two share when a name is empty or too long, and
+-- when two names are the same.
 use Prim.Native.Nat.{ℕ}
 use mathlib.Core.Bool.{Bool, true, false, _&&_, not, cond}
 use mathlib.Core.List.{List, [], _∷_}
@@ -77,6 +78,7 @@ journalSheet w c = (
 unfoldable pub keepRefusal : List ℕ → List NamedEdits → Option ℕ
 keepRefusal name ks = cond (isBadName name) (some 16) (cond (isNinth name ks) (some 17) none)
 
+-- "Keep the standing edits under a name": they stand on as they are
 unfoldable pub journalKeep : Journal → List NamedEdits → List ℕ → Answer × WorkspaceJournal
 journalKeep empty ks name = (no 7 [], with empty ks)
 journalKeep (holds load standing) ks name =

@@ -1,6 +1,6 @@
 -- The tests of a workspace's calls, in the code's order. Assumes nothing.
 use Prim.Native.Nat.{ℕ, _<_, _≤_}
-use mathlib.Core.Bool.{Bool, true, false, not, _&&_, cond}
+use mathlib.Core.Bool.{Bool, true, false, not, cond}
 use mathlib.Core.List.{List, map}
 use mathlib.Core.Path.{_≡_, sym, _∙_}
 use lib.Dec.{ltb, eqb}
@@ -8,10 +8,10 @@ use lib.ListN.{length, length-map}
 use borrow.Author.Tests.{lt-ltb, le-ltb, leb-true, ltb-false, not-true, not-false}
 use Rattle.laws.proofs.Tests.{both, neither}
 use Rattle.reading.specs.Outcome.{Outcome}
-use Rattle.sheet.specs.Sheet.{leaves, keptBy, usable}
+use Rattle.sheet.specs.Sheet.{leaves, keptBy}
 use Rattle.workspace.specs.declared.Workspace.{Workspace}
 use Rattle.workspace.specs.Names.{isBadName}
-use Rattle.workspace.specs.Workspace.{isCounted, ifNamed, placeOf, keepAt, keepIn, returnAt, returnIn}
+use Rattle.workspace.specs.Workspace.{isCounted, usableIn, ifNamed, placeOf, keepAt, keepIn, returnAt, returnIn}
 
 -- a need is handed the length of what the structs are mapped to
 pub unmapped : {X : Type 0} {Y : Type 0} (f : X → Y) (l : List X) (n : ℕ) → length (map f l) ≡ n → length l ≡ n
@@ -31,7 +31,7 @@ unfolding isBadName
 name-fits name b e f =
     ltb-false 16 (length name) (neither (eqb (length name) 0) (ltb 16 (length name)) (sym e ∙ f) .1)
 
-module _ (w : Workspace) (u : Bool) (e : u ≡ isCounted w && usable (w .sheet)) where
+module _ (w : Workspace) (u : Bool) (e : u ≡ usableIn w) where
   pub counts : not u ≡ false → w .count ≤ 8
   counts n = leb-true (w .count) 8 (both (isCounted w) _ (sym e ∙ not-false u n) .0)
 

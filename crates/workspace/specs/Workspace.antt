@@ -84,9 +84,13 @@ unfoldable pub fitBufferIn : Workspace → Size → List ℕ → List ℕ
 fitBufferIn w box b = cond (isCounted w) (fitBuffer (w .sheet) box b) b
 
 -- ---- keep and return
+-- a workspace that keep and return take for a loaded one
+abbrev pub usableIn : Workspace → Bool
+usableIn w = isCounted w && usable (w .sheet)
+
 -- what both test first: 7 "sheet is empty", 16 "name empty or too long"
 unfoldable pub ifNamed : Workspace → List ℕ → Outcome (List ℕ) × Workspace → Outcome (List ℕ) × Workspace
-ifNamed w name r = cond (isCounted w && usable (w .sheet)) (cond (isBadName name) (keptBy 16 w) r) (keptBy 7 w)
+ifNamed w name r = cond (usableIn w) (cond (isBadName name) (keptBy 16 w) r) (keptBy 7 w)
 
 -- the place of a name: how many checkpoints stand before the first that has it, all of them where none has
 unfoldable pub placeIn : List ℕ → List Checkpoint → ℕ
@@ -119,7 +123,7 @@ keepIn w name =
 abbrev pub noCheckpoint : Checkpoint
 noCheckpoint = record { name = []; len = 0; edits = []; standing = 0 }
 
--- the edits kept at a place are the standing ones
+-- the edits kept at a place are the standing ones. By hand, where they are more than 64, the sheet is not usable then
 unfoldable pub returnAt : Workspace → ℕ → Workspace
 returnAt w at =
     let p = getD (w .checkpoints) at noCheckpoint in

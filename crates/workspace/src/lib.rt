@@ -10,14 +10,13 @@ use sheet::edits::EditAnswer;
 use sheet::listing::ListAnswer;
 ghost use mathlib.Core.Path.{_≡_};
 ghost use Prim.Native.Nat.{_<_, _≤_};
-ghost use mathlib.Core.Bool.{_&&_};
 ghost use lib.ListN.{length, replicate};
 ghost use Rattle.reading.specs.Outcome.{numberOf};
 ghost use Rattle.placing.specs.Focus.{focusOf};
-ghost use Rattle.sheet.specs.Sheet.{editedMeans, usable, orientSheet, cutSheet, backSheet};
+ghost use Rattle.sheet.specs.Sheet.{editedMeans, orientSheet, cutSheet, backSheet};
 ghost use Rattle.sheet.specs.Listing.{listMeans};
 ghost use Rattle.workspace.specs.Names.{inPlaces};
-ghost use Rattle.workspace.specs.Workspace.{checkpointMeans, checkpointedMeans, editedWorkspaceMeans, loadedWorkspaceMeans, blankCheckpoint, withoutNames, freshWorkspace, loadIn, withSheet, isCounted, editIn, listOutcomeIn, listBufferIn, fitOutcomeIn, fitBufferIn, placeOf, keepAt, keepIn, returnAt, returnIn};
+ghost use Rattle.workspace.specs.Workspace.{checkpointMeans, checkpointedMeans, editedWorkspaceMeans, loadedWorkspaceMeans, blankCheckpoint, withoutNames, freshWorkspace, loadIn, withSheet, isCounted, usableIn, editIn, listOutcomeIn, listBufferIn, fitOutcomeIn, fitBufferIn, placeOf, keepAt, keepIn, returnAt, returnIn};
 
 mod names; // names of 1 to 16 bytes
 
@@ -237,7 +236,7 @@ impl Workspace {
 
     // Whether keep and return take the workspace for a loaded one.
     fn is_usable(self) -> bool
-        ensures { λ r. ⌜ r ≡ isCounted self && usable (self .sheet) ⌝ }
+        ensures { λ r. ⌜ r ≡ usableIn self ⌝ }
     {
         if !self.is_counted() {
             return false;
@@ -249,7 +248,7 @@ impl Workspace {
     // The place of the checkpoint with this name; the count where there is none.
     fn place_of(self, name: &[u8]) -> usize
         requires { ⌜ self .count ≤ 8 ⌝ }
-        ensures { λ r. ⌜ (r ≡ placeOf self (now (name .entry))) × (r ≤ self .count) ⌝ }
+        ensures { λ r. ⌜ r ≡ placeOf self (now (name .entry)) ⌝ }
     {
         let count = self.count;
         let mut i: usize = 0;
@@ -274,7 +273,7 @@ impl Workspace {
         }
     }
 
-    // The standing edits kept at a place, which is one of those in use or the next.
+    // The standing edits kept at a place; one behind those in use is the last of them then.
     fn keep_at(self, name: &[u8], at: usize) -> Workspace
         requires { ⌜ (length (now name) ≤ 16) × (at < 8) ⌝ }
         ensures { λ r. ⌜ r ≡ keepAt self (now (name .entry)) at ⌝ }

@@ -1,19 +1,19 @@
 -- `Workspace::is_usable`: the count, then the sheet. Assumes nothing.
-use mathlib.Core.Bool.{Bool, true, false, not, _&&_}
+use mathlib.Core.Bool.{Bool, true, false, not}
 use mathlib.Core.Path.{_≡_}
 use borrow.Author.Tests.{not-true, not-false}
 use Rattle.sheet.specs.Sheet.{usable}
 use Rattle.workspace.specs.declared.Workspace.{Workspace}
-use Rattle.workspace.specs.Workspace.{isCounted}
+use Rattle.workspace.specs.Workspace.{isCounted, usableIn}
 use borrow.Author.Needs.{needs}
 use Rattle.workspace.proofs.Workspace.is_usable.Statement.{statement}
 use Rattle.workspace.proofs.Workspace.is_usable.Tie as tie
 
 module _ (w : Workspace) (r : Bool) (e : r ≡ isCounted w) where
-  uncounted : not r ≡ true → false ≡ isCounted w && usable (w .sheet)
+  uncounted : not r ≡ true → false ≡ usableIn w
   uncounted n = rw (← e, not-true r n)
 
-  counted : not r ≡ false → (u : Bool) → u ≡ usable (w .sheet) → u ≡ isCounted w && usable (w .sheet)
+  counted : not r ≡ false → (u : Bool) → u ≡ usable (w .sheet) → u ≡ usableIn w
   counted n u d = rw (← e, not-false r n) d
 
 is-counted-requires : tie.Need-is-counted-requires

@@ -1,5 +1,6 @@
 -- `Workspace::keep`: the tests 7, 16, 17 in their order. Assumes nothing.
 use mathlib.Core.Path.{_∙_}
+use native.Mathlib.Omega.{arith}
 use Rattle.workspace.proofs.Tests.{name-fits, counts, keep-empty, keep-bad, keep-ninth, keep-done}
 use borrow.Author.Needs.{needs}
 use Rattle.workspace.proofs.Workspace.keep.Statement.{statement}
@@ -30,7 +31,7 @@ ends-requires-3 : tie.Need-ends-requires-3
 ends-requires-3 c κs = search needs
 
 returns-3 : tie.Need-returns-3
-returns-3 c = (c .ends3 .ensures) ∙ keep-ninth _ _ (c .before .before .before .before .before .before .is-usable .ensures) _ (c .before .before .before .before .before .if1 .left) _ (c .before .before .before .before .is-bad-name .ensures) (c .before .before .before .if2 .left) _ (c .before .before .place-of .ensures .0) (c .before .if3 .taken)
+returns-3 c = (c .ends3 .ensures) ∙ keep-ninth _ _ (c .before .before .before .before .before .before .is-usable .ensures) _ (c .before .before .before .before .before .if1 .left) _ (c .before .before .before .before .is-bad-name .ensures) (c .before .before .before .if2 .left) _ (c .before .before .place-of .ensures) (omega (arith, c .before .if3 .taken))
 
 keep-at-requires : tie.Need-keep-at-requires
 keep-at-requires c κs = (name-fits _ _ (c .before .before .before .is-bad-name .ensures) (c .before .before .if2 .left), (c .if3 .left))
@@ -39,7 +40,7 @@ ends-requires-4 : tie.Need-ends-requires-4
 ends-requires-4 c κs = search needs
 
 returns-4 : tie.Need-returns-4
-returns-4 c = (c .ends4 .ensures) ∙ keep-done _ _ (c .before .before .before .before .before .before .before .is-usable .ensures) _ (c .before .before .before .before .before .before .if1 .left) _ (c .before .before .before .before .before .is-bad-name .ensures) (c .before .before .before .before .if2 .left) _ (c .before .before .before .place-of .ensures .0) (c .before .before .if3 .left) _ (c .before .keep-at .ensures)
+returns-4 c = (c .ends4 .ensures) ∙ keep-done _ _ (c .before .before .before .before .before .before .before .is-usable .ensures) _ (c .before .before .before .before .before .before .if1 .left) _ (c .before .before .before .before .before .is-bad-name .ensures) (c .before .before .before .before .if2 .left) _ (c .before .before .before .place-of .ensures) (c .before .before .if3 .left) _ (c .before .keep-at .ensures)
 
 pub keep-spec : {M : Type 1} → statement M
 keep-spec =

@@ -27,7 +27,7 @@ is-named-requires : tie.Need-is-named-requires Inv-loop μ-loop
 is-named-requires c κs = search needs
 
 returns : tie.Need-returns Inv-loop μ-loop
-returns c = (found _ _ _ (within (unmapped _ ((c .before .before .before .before .before .before .before .args .t1) .checkpoints) 8 (c .before .before .before .before .before .before .before .good .0 .1 .1 .1 .0 .1 .0 .1)) (c .before .before .before .before .before .before .before .pre)) _ (c .before .before .before .before .before .loop .inv .1) (c .before .before .before .before .loop-test .taken) _ (c .before .is-named .ensures) (c .if1 .taken), omega arith)
+returns c = found _ _ _ (within (unmapped _ ((c .before .before .before .before .before .before .before .args .t1) .checkpoints) 8 (c .before .before .before .before .before .before .before .good .0 .1 .1 .1 .0 .1 .0 .1)) (c .before .before .before .before .before .before .before .pre)) _ (c .before .before .before .before .before .loop .inv .1) (c .before .before .before .before .loop-test .taken) _ (c .before .is-named .ensures) (c .if1 .taken)
 
 add-i : tie.Need-add-i Inv-loop μ-loop
 add-i c = omega (arith, (c .before .before .before .before .before .before .before .pre))
@@ -39,7 +39,7 @@ loop-again : tie.Need-loop-again Inv-loop μ-loop
 loop-again c = (omega arith, passed-one _ _ _ (within (unmapped _ ((c .before .before .before .before .before .before .before .args .t1) .checkpoints) 8 (c .before .before .before .before .before .before .before .good .0 .1 .1 .1 .0 .1 .0 .1)) (c .before .before .before .before .before .before .before .pre)) _ (c .before .before .before .before .before .loop .inv .1) (c .before .before .before .before .loop-test .taken) _ (c .before .is-named .ensures) (c .if1 .left))
 
 returns-2 : tie.Need-returns-2 Inv-loop μ-loop
-returns-2 c = (none-has _ _ _ (within (unmapped _ ((c .before .before .before .args .t1) .checkpoints) 8 (c .before .before .before .good .0 .1 .1 .1 .0 .1 .0 .1)) (c .before .before .before .pre)) _ (c .before .loop .inv .1) (c .loop-test .left), omega arith)
+returns-2 c = none-has _ _ _ (within (unmapped _ ((c .before .before .before .args .t1) .checkpoints) 8 (c .before .before .before .good .0 .1 .1 .1 .0 .1 .0 .1)) (c .before .before .before .pre)) _ (c .before .loop .inv .1) (c .loop-test .left)
 
 pub place-of-spec : {M : Type 1} → statement M
 place-of-spec =

@@ -31,7 +31,7 @@ ends-requires-3 : tie.Need-ends-requires-3
 ends-requires-3 c κs = search needs
 
 returns-3 : tie.Need-returns-3
-returns-3 c = (c .ends3 .ensures) ∙ return-none _ _ (c .before .before .before .before .before .before .before .is-usable .ensures) _ (c .before .before .before .before .before .before .if1 .left) _ (c .before .before .before .before .before .is-bad-name .ensures) (c .before .before .before .before .if2 .left) _ (c .before .before .before .place-of .ensures .0) (c .before .if3 .taken)
+returns-3 c = (c .ends3 .ensures) ∙ return-none _ _ (c .before .before .before .before .before .before .before .is-usable .ensures) _ (c .before .before .before .before .before .before .if1 .left) _ (c .before .before .before .before .before .is-bad-name .ensures) (c .before .before .before .before .if2 .left) _ (c .before .before .before .place-of .ensures) (c .before .if3 .taken)
 
 return-at-requires : tie.Need-return-at-requires
 return-at-requires c κs = omega (arith, counts (c .before .before .before .before .before .before .before .before .args .self) _ (c .before .before .before .before .before .before .is-usable .ensures) (c .before .before .before .before .before .if1 .left), (c .if3 .left))
@@ -40,7 +40,7 @@ ends-requires-4 : tie.Need-ends-requires-4
 ends-requires-4 c κs = search needs
 
 returns-4 : tie.Need-returns-4
-returns-4 c = (c .ends4 .ensures) ∙ return-done _ _ (c .before .before .before .before .before .before .before .before .is-usable .ensures) _ (c .before .before .before .before .before .before .before .if1 .left) _ (c .before .before .before .before .before .before .is-bad-name .ensures) (c .before .before .before .before .before .if2 .left) _ (c .before .before .before .before .place-of .ensures .0) (c .before .before .if3 .left) _ (c .before .return-at .ensures)
+returns-4 c = (c .ends4 .ensures) ∙ return-done _ _ (c .before .before .before .before .before .before .before .before .is-usable .ensures) _ (c .before .before .before .before .before .before .before .if1 .left) _ (c .before .before .before .before .before .before .is-bad-name .ensures) (c .before .before .before .before .before .if2 .left) _ (c .before .before .before .before .place-of .ensures) (c .before .before .if3 .left) _ (c .before .return-at .ensures)
 
 pub return-to-spec : {M : Type 1} → statement M
 return-to-spec =
