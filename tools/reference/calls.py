@@ -157,12 +157,14 @@ def every_answer():
 NAMES = [b"A", b"A\0", b"AB", b"page one", b"page one, insid", b"page one, inside", b"page one, insidE", b"\0"]
 # Eight others that are as near to these.
 OTHERS = [b"page", b"B", b"a", b"A\0\0", b"page one,", b"page one, insid\0", b"\0\0", b"\xff" * 16]
+# And eight that would be some of these if spaces were trimmed, bytes put in order, cut to 7 bits, or one in the middle left out.
+TWINS = [b"A ", b" A", b"BA", b"\xc1", b"page two, inside", b"page one, insixe", b"page one ", b" page one"]
 # Of 0, 17 and 255 bytes.
 BAD_NAMES = [b"", b"page one, inside!", b"page one, inside\0", b"A".ljust(255, b"\0")]
 
 
 # To draw from: more than can be kept.
-SOME_NAMES = NAMES + OTHERS[:3]
+SOME_NAMES = NAMES + OTHERS[:2] + TWINS[:1] + TWINS[2:5]
 
 
 def shown(names):
@@ -198,7 +200,9 @@ def around_loads():
         yield from shown(NAMES[number : number + 1])
     yield from (load(*orientations.NAMED), show(30), BACK)
     yield from eight_names(OTHERS, NAMES)
-    yield from (load(*orientations.NAMED), *map(return_to, OTHERS), keep(NAMES[5]), load(*orientations.CORNER), return_to(NAMES[5]))
+    yield from (load(*orientations.NAMED), *map(return_to, OTHERS))
+    yield from eight_names(NAMES, TWINS)
+    yield from (load(*orientations.NAMED), keep(NAMES[5]), load(*orientations.CORNER), return_to(NAMES[5]))
 
 
 def kept_edits():

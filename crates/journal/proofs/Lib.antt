@@ -9,7 +9,6 @@ pub mod Fitted
 pub mod Refusals
 pub mod Laws
 pub mod Orientations
-pub mod Example
 pub mod CheckpointPlaces
 pub mod WorkspaceAgrees
 pub mod KeptNames
@@ -17,3 +16,4 @@ pub mod Latest
 pub mod Alone
 pub mod RefusalsIn
 pub mod AnyWorkspace
+pub mod Example

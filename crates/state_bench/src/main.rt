@@ -250,13 +250,13 @@ fn main() {
     if first < 512 {
         return;
     }
-    let mut turns = u64::MAX;
-    while turns > 0 {
+    let mut rounds = u64::MAX;
+    while rounds > 0 {
         let n = io::read_full(STDIN_FILENO, &mut job);
         if n < 512 {
             return;
         }
         run(&load, &job);
-        turns -= 1;
+        rounds -= 1;
     }
 }

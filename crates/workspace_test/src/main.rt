@@ -2,8 +2,8 @@
 // first, then what it takes, then zeros. 1 load: a byte of flags (1 raw size, 2 picture size), the two sizes as four 32-bit
 // numbers, the model's length in a byte, the block's length in two, the model, the block. 2 cut: left, top, width, height. 5 back.
 // 6 list: the buffer's places in a byte. 7 fit: width, height, and the buffer's places in a byte. 9 orient: the number in a byte.
-// 10 keep, 11 return: the name's length in a byte, the name. Numbers are big-endian. Place i of a buffer holds i + 1 before a call.
-// No contract can say what is printed: that is held to `stdout`.
+// 10 keep, 11 return: the name's length in a byte, the name. Another code is taken for 7. Numbers are big-endian. Place i of a buffer
+// holds i + 1 before a call. No contract can say what is printed: that is held to `stdout`.
 use libc::STDIN_FILENO;
 use libc::STDOUT_FILENO;
 use numbers::io::ByteOrder;
@@ -213,13 +213,13 @@ fn space() -> [u8; 512]
 fn main() {
     let mut call = space();
     let mut workspace = Workspace::new();
-    let mut turns = u64::MAX;
-    while turns > 0 {
+    let mut rounds = u64::MAX;
+    while rounds > 0 {
         let n = io::read_full(STDIN_FILENO, &mut call);
         if n < 512 {
             return;
         }
         workspace = answer(workspace, &call);
-        turns -= 1;
+        rounds -= 1;
     }
 }

@@ -1,4 +1,4 @@
--- `main` is safe and ends: the buffers keep their length, and the count of turns falls. Assumes nothing.
+-- `main` is safe and ends: the buffers keep their length, and the count of rounds falls. Assumes nothing.
 use mathlib.Core.Path.{_≡_}
 use native.Mathlib.Omega.{arith}
 use lib.ListN.{length}
@@ -7,10 +7,10 @@ use Rattle.state_bench.proofs.main.Statement.{statement}
 use Rattle.state_bench.proofs.main.Tie as tie
 
 abbrev Inv-loop : tie.InvT-loop
-Inv-loop load job₀ first turns₀ job turns = 512 ≡ length job
+Inv-loop load job₀ first rounds₀ job rounds = 512 ≡ length job
 
 abbrev μ-loop : tie.MeasureT-loop
-μ-loop load job₀ first turns₀ job turns = turns
+μ-loop load job₀ first rounds₀ job rounds = rounds
 
 space-requires : tie.Need-space-requires Inv-loop μ-loop
 space-requires c κs = search needs
@@ -48,8 +48,8 @@ slice-aggregate-run-2 c = search needs
 run-requires : tie.Need-run-requires Inv-loop μ-loop
 run-requires c κs = search needs
 
-sub-turns : tie.Need-sub-turns Inv-loop μ-loop
-sub-turns c = omega arith
+sub-rounds : tie.Need-sub-rounds Inv-loop μ-loop
+sub-rounds c = omega arith
 
 loop-less : tie.Need-loop-less Inv-loop μ-loop
 loop-less c = omega arith
@@ -78,7 +78,7 @@ main-spec =
     slice-aggregate-run
     slice-aggregate-run-2
     run-requires
-    sub-turns
+    sub-rounds
     loop-less
     loop-again
     returns-3)

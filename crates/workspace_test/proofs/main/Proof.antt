@@ -1,4 +1,4 @@
--- `main` is safe and ends: the buffer keeps its length, and the count of turns falls. Assumes nothing.
+-- `main` is safe and ends: the buffer keeps its length, and the count of rounds falls. Assumes nothing.
 use mathlib.Core.Path.{_≡_}
 use native.Mathlib.Omega.{arith}
 use lib.ListN.{length}
@@ -7,10 +7,10 @@ use Rattle.workspace_test.proofs.main.Statement.{statement}
 use Rattle.workspace_test.proofs.main.Tie as tie
 
 abbrev Inv-loop : tie.InvT-loop
-Inv-loop call₀ workspace₀ turns₀ call workspace turns = 512 ≡ length call
+Inv-loop call₀ workspace₀ rounds₀ call workspace rounds = 512 ≡ length call
 
 abbrev μ-loop : tie.MeasureT-loop
-μ-loop call₀ workspace₀ turns₀ call workspace turns = turns
+μ-loop call₀ workspace₀ rounds₀ call workspace rounds = rounds
 
 space-requires : tie.Need-space-requires Inv-loop μ-loop
 space-requires c κs = search needs
@@ -36,8 +36,8 @@ slice-aggregate-answer c = search needs
 answer-requires : tie.Need-answer-requires Inv-loop μ-loop
 answer-requires c κs = search needs
 
-sub-turns : tie.Need-sub-turns Inv-loop μ-loop
-sub-turns c = omega arith
+sub-rounds : tie.Need-sub-rounds Inv-loop μ-loop
+sub-rounds c = omega arith
 
 loop-less : tie.Need-loop-less Inv-loop μ-loop
 loop-less c = omega arith
@@ -62,7 +62,7 @@ main-spec =
     returns
     slice-aggregate-answer
     answer-requires
-    sub-turns
+    sub-rounds
     loop-less
     loop-again
     returns-2)
