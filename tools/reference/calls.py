@@ -157,8 +157,11 @@ def every_answer():
 NAMES = [b"A", b"A\0", b"AB", b"page one", b"page one, insid", b"page one, inside", b"page one, insidE", b"\0"]
 # Eight others that are as near to these.
 OTHERS = [b"page", b"B", b"a", b"A\0\0", b"page one,", b"page one, insid\0", b"\0\0", b"\xff" * 16]
-# And eight that would be some of these if spaces were trimmed, bytes put in order, cut to 7 bits, or one in the middle left out.
+# And eight that would be some of these if spaces were trimmed, bytes put in order or cut to 7 bits, or some in the middle left out.
 TWINS = [b"A ", b" A", b"BA", b"\xc1", b"page two, inside", b"page one, insixe", b"page one ", b" page one"]
+# One of 16 bytes, and each that differs from it in one bit of one byte.
+LONG = NAMES[5]
+ONE_OFF = [LONG[:place] + bytes([LONG[place] ^ 1]) + LONG[place + 1 :] for place in range(16)]
 # Of 0, 17 and 255 bytes.
 BAD_NAMES = [b"", b"page one, inside!", b"page one, inside\0", b"A".ljust(255, b"\0")]
 
@@ -195,6 +198,7 @@ def around_loads():
     """Refused loads keep the names; an accepted one clears them, and there is room for eight others."""
     yield load(*orientations.NAMED)
     yield from eight_names(NAMES, OTHERS)
+    yield from map(return_to, ONE_OFF)
     for number in range(1, 7):
         yield load(*loads()["no %d" % number][0][0])
         yield from shown(NAMES[number : number + 1])
