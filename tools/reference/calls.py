@@ -6,8 +6,8 @@ calls.py --answers < CALLS       print what workspace_test must print for these 
 Writes a list of calls for the program workspace_test, stdin of that crate, and
 what it must print, its stdout: the answers and buffers of the book of
 reference.py, which is fed the calls alone. The front of the list has every
-answer among its own, every orientation, and each way in which names and what is
-kept under them can be mistaken; behind it come COUNT calls by chance. The loads
+answer among its own, every orientation, and names that are easily taken for each
+other, each with what is kept under it; behind it come COUNT calls by chance. The loads
 are those that are stored for placing_test, and at the front those of
 orientations.py. What is stored is of seed 1 and count 900, which are taken if
 none are given.

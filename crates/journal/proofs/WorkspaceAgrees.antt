@@ -2,7 +2,7 @@
 -- `Places` are there, its count in range. What the sheet answers is proofs/Claim.antt's; load, keep and return add the names. Then by
 -- induction over the list. Assumes nothing.
 use Prim.Native.Nat.{ℕ, _+_, _<_, _≤_}
-use mathlib.Core.Bool.{Bool, true, false, _&&_, not, cond}
+use mathlib.Core.Bool.{Bool, true, false, _&&_, not, cond, false≢true}
 use mathlib.Core.List.{List, [], _∷_, _++_, map}
 use mathlib.Core.Logic.{_⊎_, inl, inr}
 use mathlib.Core.Option.{Option, none, some}
@@ -246,14 +246,18 @@ module _ (w : Workspace) (p : Places w) (name : List ℕ) where
 -- ---- a call of the sheet
 -- "an accepted load clears all names", a refused one none
 loaded-names : (c : Call) → isLoad c ≡ true → (ks : List NamedEdits) → namesAfter c (ok [] []) ks ≡ []
-loaded-names c l ks = ap (λ (b : Bool). cond (b && true) [] ks) l
+loaded-names (load block raw picture model) l ks = refl
+loaded-names (change c) l ks = absurd (false≢true l)
+loaded-names back l ks = absurd (false≢true l)
+loaded-names (list buffer) l ks = absurd (false≢true l)
+loaded-names (fit box buffer) l ks = absurd (false≢true l)
 
 refused-names : (c : Call) (n : ℕ) (ks : List NamedEdits) → namesAfter c (no n []) ks ≡ ks
-refused-names c n ks = by (isLoad c)
-  where
-    by : (b : Bool) → cond (b && false) [] ks ≡ ks
-    by true = refl
-    by false = refl
+refused-names (load block raw picture model) n ks = refl
+refused-names (change c) n ks = refl
+refused-names back n ks = refl
+refused-names (list buffer) n ks = refl
+refused-names (fit box buffer) n ks = refl
 
 fresh-places : (s : Sheet) → Places (withoutNames s)
 unfolding withoutNames
