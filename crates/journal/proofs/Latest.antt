@@ -1,11 +1,13 @@
--- Keeps and returns. After every list of calls what the journal keeps under a name is what stood at the latest accepted keep under it since the last
--- accepted load, of the same load (`KeptAt`): by induction over the list, call by call. A keep leaves the sheet's journal as it is. Assumes
--- nothing.
+-- Keeps and returns. After every list of calls what the journal keeps under a name is what stood at the latest accepted keep under it since
+-- the last accepted load, of the same load (`KeptAt`): by induction over the list, call by call. A keep leaves the sheet's journal as it is.
+-- Assumes nothing.
 use Prim.Native.Nat.{ℕ}
 use mathlib.Core.Bool.{Bool, true, false, _&&_, cond}
 use mathlib.Core.List.{List, [], _∷_, _++_, append-nil}
+use mathlib.Core.Logic.{_↔_}
 use mathlib.Core.Option.{Option, none, some}
 use mathlib.Core.Path.{_≡_, refl, sym, ap, _∙_}
+use native.Mathlib.Omega.{arith}
 use lib.Seq.{append-snoc}
 use Rattle.numbers.specs.Bytes.{same}
 use Rattle.reading.specs.Outcome.{Outcome, refused, accepted, isAccepted}
@@ -15,7 +17,7 @@ use Rattle.workspace.specs.Names.{isBadName}
 use Rattle.journal.specs.Journal.{Change, Journal, empty, holds, Answer, no, ok, ended, changeRefusal, backRefusal, journalLoad, journalChange, journalBack}
 use Rattle.journal.specs.Calls.{Call, load, change, back, list, fit, isLoad, journalStep}
 use Rattle.journal.specs.WorkspaceJournal.{NamedEdits, WorkspaceJournal, with, emptyIn, keptUnder, keepUnder, isNinth, WorkspaceCall, onSheet, keep, return, namesAfter, journalSheet, keepRefusal, journalKeep, returned, journalReturn, journalStepIn, journalAfterIn}
-use Rattle.journal.specs.WorkspaceClaim.{afterIn, latestBy, latestFrom, latestKeep, ReturnsToLatest, NoKeepNoReturn, KeepIsNoEdit}
+use Rattle.journal.specs.WorkspaceClaim.{afterIn, latestBy, latestFrom, latestKeep, ReturnsToLatest, NoKeepNoReturn, KeepIsNoEdit, NamesAreKept}
 use Rattle.journal.proofs.KeptNames.{same-true, kept-after}
 use Rattle.journal.proofs.WorkspaceAgrees.{answers-in, after-snoc}
 
@@ -120,6 +122,21 @@ latest-from name (c ∷ cs) before l k =
 latest-is : (name : List ℕ) (calls : List WorkspaceCall) → KeptAfter name (latestKeep name calls) (afterIn calls)
 unfolding journalAfterIn keptUnder
 latest-is name calls = latest-from name calls [] none tt
+
+-- a name is kept if it has such a keep, and only then
+none-both : (name : List ℕ) (l : Option (List WorkspaceCall)) (o : Option (List Change)) (j : Journal) → KeptAt name l o j
+    → (o ≡ none) ↔ (l ≡ none)
+none-both name none none j k = (λ e. refl, λ e. refl)
+none-both name none (some edits) j k = absurd k
+none-both name (some before) none j k = absurd k
+none-both name (some before) (some edits) j k = (
+  λ e. let z : _≡_ {A = ℕ} 0 1 = cc in absurd (omega arith),
+  λ e. let z : _≡_ {A = ℕ} 0 1 = cc in absurd (omega arith),
+)
+
+pub names-are-kept : NamesAreKept
+names-are-kept calls name =
+    none-both name (latestKeep name calls) (keptUnder name (afterIn calls .names)) (afterIn calls .journal) (latest-is name calls)
 
 -- ---- returns
 -- a call of the sheet is answered by what the journal holds, whatever names it has

@@ -89,6 +89,11 @@ Differ (k ∷ ks) = (keptUnder (k .name) ks ≡ none) × Differ ks
 abbrev pub NamesDiffer : Type 0
 NamesDiffer = (calls : List WorkspaceCall) → Differ (afterIn calls .names)
 
+-- the names are those that were kept since the last accepted load, and no others
+abbrev pub NamesAreKept : Type 0
+NamesAreKept =
+    (calls : List WorkspaceCall) (name : List ℕ) → (keptUnder name (afterIn calls .names) ≡ none) ↔ (latestKeep name calls ≡ none)
+
 -- "at most eight names"
 abbrev pub EightAtMost : Type 0
 EightAtMost = (calls : List WorkspaceCall) → length (afterIn calls .names) ≤ 8
