@@ -64,7 +64,7 @@ no-load : (j : Journal) → heldLoad j ≡ none → j ≡ empty
 no-load empty e = refl
 no-load (holds f row) e = let z : _≡_ {A = ℕ} 0 1 = cc in absurd (omega arith)
 
-pub empty-seven : (c : Call) → isLoad c ≡ false → journalStep empty c .0 ≡ no 7 (lent c)
+empty-seven : (c : Call) → isLoad c ≡ false → journalStep empty c .0 ≡ no 7 (lent c)
 unfolding journalStep journalChange journalBack journalList journalFit
 empty-seven (load block raw picture model) e = absurd (false≢true (sym e))
 empty-seven (change c) e = refl
