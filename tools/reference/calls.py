@@ -159,9 +159,15 @@ NAMES = [b"A", b"A\0", b"AB", b"page one", b"page one, insid", b"page one, insid
 OTHERS = [b"page", b"B", b"a", b"A\0\0", b"page one,", b"page one, insid\0", b"\0\0", b"\xff" * 16]
 # And eight that would be some of these if spaces were trimmed, bytes put in order or cut to 7 bits, or some in the middle left out.
 TWINS = [b"A ", b" A", b"BA", b"\xc1", b"page two, inside", b"page one, insixe", b"page one ", b" page one"]
-# One of 16 bytes, and each that differs from it in one bit of one byte.
-LONG = NAMES[5]
-ONE_OFF = [LONG[:place] + bytes([LONG[place] ^ 1]) + LONG[place + 1 :] for place in range(16)]
+
+
+def one_off(name, place, bit):
+    """A name that differs in one bit of one byte."""
+    return name[:place] + bytes([name[place] ^ 1 << bit]) + name[place + 1 :]
+
+
+# One of 16 bytes, off by one bit in each of its bytes.
+ONE_OFF = [one_off(NAMES[5], place, place % 8) for place in range(16)]
 # Of 0, 17 and 255 bytes.
 BAD_NAMES = [b"", b"page one, inside!", b"page one, inside\0", b"A".ljust(255, b"\0")]
 
@@ -299,7 +305,19 @@ class Run:
             self.add(show(self.some_places()))
 
     def a_name(self):
-        return self.chance.choice(SOME_NAMES if self.chance.random() < 0.9 else BAD_NAMES)
+        """A name out of some, or one that is kept, or one that is nearly one of these, or of any bytes and length."""
+        chance, kept = self.chance, list(self.book.names)
+        name = chance.choice(kept if kept and chance.random() < 0.3 else SOME_NAMES)
+        kind = chance.choices(["as it is", "one off", "longer", "shorter", "any", "bad"], [60, 8, 6, 6, 10, 10])[0]
+        if kind == "one off":
+            return one_off(name, chance.randrange(len(name)), chance.randrange(8))
+        if kind == "longer":
+            return name + bytes([chance.choice(b"\0 AB\xff")])
+        if kind == "shorter":
+            return name[:-1]
+        if kind == "any":
+            return bytes(chance.choice(b"AB") for _ in range(chance.randrange(19)))
+        return name if kind == "as it is" else chance.choice(BAD_NAMES)
 
     def some_places(self):
         """How many places: often just enough, or one too few."""

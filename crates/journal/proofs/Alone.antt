@@ -1,6 +1,6 @@
 -- A workspace beside a sheet. Its sheet answers the sheet's calls as it does alone. And whatever its calls, what its journal holds is
 -- reached by a sheet's calls alone, as is what it would hold with any of the kept edits standing (`Reached`): by induction over the calls.
--- So what is said of a sheet after calls holds of it. Assumes nothing.
+-- So its answers are those of a sheet after some calls. Assumes nothing.
 use Prim.Native.Nat.{ℕ}
 use mathlib.Core.Bool.{Bool, true, false, cond}
 use mathlib.Core.List.{List, [], _∷_, _++_, map}
@@ -61,7 +61,7 @@ pub sheets-own-calls : SheetsOwnCalls
 unfolding journalStepIn journalSheet
 sheets-own-calls calls c = record {
   answers = answers-in calls (onSheet c);
-  leaves = ap (λ (w : WorkspaceJournal). w .journal) (after-snoc emptyIn calls (onSheet c));
+  next-journal = ap (λ (w : WorkspaceJournal). w .journal) (after-snoc emptyIn calls (onSheet c));
 }
 
 -- ---- what a sheet's calls alone lead to

@@ -11,8 +11,8 @@ use native.Mathlib.Omega.{arith}
 use borrow.Author.Tests.{le-leb}
 use Rattle.numbers.specs.Bytes.{same}
 use Rattle.workspace.specs.declared.Checkpoint.{Checkpoint}
-use Rattle.workspace.specs.Names.{inPlaces, isNamed}
-use Rattle.workspace.specs.Workspace.{noCheckpoint, blankCheckpoint, placeIn}
+use Rattle.workspace.specs.Names.{inPlaces, holdsName}
+use Rattle.workspace.specs.Workspace.{noCheckpoint, blankCheckpoint, placeAmong}
 use Rattle.journal.specs.WorkspaceJournal.{NamedEdits, keptUnder, keepUnder}
 use Rattle.journal.proofs.Placed.{rowAt}
 
@@ -61,8 +61,8 @@ pub reads-back : (name : List ℕ) → take (length name) (inPlaces name) ≡ na
 unfolding inPlaces
 reads-back name = take-append-seam name _
 
-named-same : (name : List ℕ) (p : Checkpoint) → Fine p → isNamed name (p .name) (p .len) ≡ same (keptOf p .name) name
-unfolding isNamed
+named-same : (name : List ℕ) (p : Checkpoint) → Fine p → holdsName name (p .name) (p .len) ≡ same (keptOf p .name) name
+unfolding holdsName
 named-same name p f = rw (le-leb (p .len) 16 (f .short))
 
 -- ---- what the walk finds
@@ -79,13 +79,13 @@ pub data Found (name : List ℕ) (ps : List Checkpoint) (at : ℕ) : Type 0 wher
 kept-is : (x : Checkpoint) (name : List ℕ) → keptOf x .name ≡ name → keptOf x ≡ record { name = name; edits = keptOf x .edits }
 kept-is x name e = ap (λ (m : List ℕ). record { name = m; edits = keptOf x .edits }) e
 
-pub find : (name : List ℕ) (ps : List Checkpoint) → AllFine ps → Found name ps (placeIn name ps)
-unfolding placeIn keptUnder keepUnder
+pub find : (name : List ℕ) (ps : List Checkpoint) → AllFine ps → Found name ps (placeAmong name ps)
+unfolding placeAmong keptUnder keepUnder
 find name [] nil = absent refl refl (λ x e. ap (λ (k : NamedEdits). k ∷ []) (kept-is x name e))
-find name (p ∷ ps) (cons f a) = by (isNamed name (p .name) (p .len)) (sym (named-same name p f)) (find name ps a)
+find name (p ∷ ps) (cons f a) = by (holdsName name (p .name) (p .len)) (sym (named-same name p f)) (find name ps a)
   where
-    by : (b : Bool) → same (keptOf p .name) name ≡ b → Found name ps (placeIn name ps)
-        → Found name (p ∷ ps) (cond b 0 (suc (placeIn name ps)))
+    by : (b : Bool) → same (keptOf p .name) name ≡ b → Found name ps (placeAmong name ps)
+        → Found name (p ∷ ps) (cond b 0 (suc (placeAmong name ps)))
     by true e g = there (omega arith) (rw e) (λ x d. rw e (ap (λ (k : NamedEdits). k ∷ map keptOf ps) (kept-is x name d)))
     by false e (there h r s) =
         there (omega arith) (rw e r) (λ x d. rw e (ap (λ (ks : List NamedEdits). keptOf p ∷ ks) (s x d)))

@@ -190,7 +190,7 @@ no-keep-no-return calls name e =
     (no-keep name (w .names) (w .journal) (keptUnder name (w .names)) refl (rw e at (latest-is name calls)))
 
 -- ---- keeps
-keep-journal : (j : Journal) (ks : List NamedEdits) (name : List ℕ) → journalKeep j ks name .1 .journal ≡ j
+pub keep-journal : (j : Journal) (ks : List NamedEdits) (name : List ℕ) → journalKeep j ks name .1 .journal ≡ j
 unfolding journalKeep
 keep-journal empty ks name = refl
 keep-journal (holds f row) ks name = by (keepRefusal name ks)

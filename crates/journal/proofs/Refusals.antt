@@ -44,7 +44,7 @@ unfolding journalBack
 back-load empty = refl
 back-load (holds f row) = ended-load (backRefusal row) f row _
 
-load-from : (j : Journal) (cs : List Call) → heldLoad (journalAfter j cs) ≡ lastFrom (heldLoad j) cs
+pub load-from : (j : Journal) (cs : List Call) → heldLoad (journalAfter j cs) ≡ lastFrom (heldLoad j) cs
 unfolding journalAfter lastFrom journalStep
 load-from j [] = refl
 load-from j (load block raw picture model ∷ cs) =
@@ -60,11 +60,11 @@ pub holds-last-load : HoldsLastLoad
 holds-last-load calls = load-from empty calls
 
 -- ---- before a load
-no-load : (j : Journal) → heldLoad j ≡ none → j ≡ empty
+pub no-load : (j : Journal) → heldLoad j ≡ none → j ≡ empty
 no-load empty e = refl
 no-load (holds f row) e = let z : _≡_ {A = ℕ} 0 1 = cc in absurd (omega arith)
 
-empty-seven : (c : Call) → isLoad c ≡ false → journalStep empty c .0 ≡ no 7 (lent c)
+pub empty-seven : (c : Call) → isLoad c ≡ false → journalStep empty c .0 ≡ no 7 (lent c)
 unfolding journalStep journalChange journalBack journalList journalFit
 empty-seven (load block raw picture model) e = absurd (false≢true (sym e))
 empty-seven (change c) e = refl

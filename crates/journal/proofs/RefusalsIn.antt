@@ -1,27 +1,86 @@
--- A workspace's call is refused exactly when its refusals say: the sheet's calls by proofs/Refusals.antt, keep and return by the cases of
+-- The journal of a workspace holds the last accepted load, by induction over the calls: a keep or a return brings no other. And a
+-- workspace's call is refused exactly when its refusals say: the sheet's calls by proofs/Refusals.antt, keep and return by the cases of
 -- their tests, both ways. Assumes nothing.
 use Prim.Native.Nat.{ℕ, _≤_}
 use mathlib.Core.Bool.{Bool, true, false, _||_, not, cond, false≢true}
-use mathlib.Core.List.{List, []}
+use mathlib.Core.List.{List, [], _∷_}
 use mathlib.Core.Logic.{inl, inr}
 use mathlib.Core.Option.{Option, none, some}
-use mathlib.Core.Path.{_≡_, refl, subst}
+use mathlib.Core.Path.{_≡_, refl, subst, ap, _∙_}
 use lib.Dec.{leb, ltb, eqb}
 use lib.ListN.{length}
 use native.Mathlib.Omega.{arith}
 use borrow.Author.Tests.{lt-ltb, le-ltb, le-leb, eq-eqb, ne-eqb, ltb-true, ltb-false, leb-true, eqb-true, eqb-false}
 use Rattle.laws.proofs.Tests.{neither, both, or-first, or-second}
 use Rattle.reading.specs.Outcome.{Outcome, refused}
+use Rattle.placing.specs.Load.{Focus}
 use Rattle.workspace.specs.Names.{isBadName}
-use Rattle.journal.specs.Journal.{Change, Journal, empty, holds, no, ended}
-use Rattle.journal.specs.WorkspaceJournal.{NamedEdits, WorkspaceJournal, with, keptUnder, keepUnder, isKept, isNinth, WorkspaceCall, onSheet, keep, return, journalSheet, keepRefusal, journalKeep, returned, journalReturn, journalStepIn}
-use Rattle.journal.specs.WorkspaceClaim.{afterIn, BadName, GoodName, RefusesIn, ofSheet, emptyKeep, emptyReturn, badKeep, badReturn, ninth, noSuchName, RefusedExactlyIn}
-use Rattle.journal.proofs.Refusals.{never, told, says}
+use Rattle.journal.specs.Journal.{Change, Journal, empty, holds, Answer, no, ended}
+use Rattle.journal.specs.Calls.{Call, load, change, back, list, fit, journalAfter}
+use Rattle.journal.specs.Claim.{lastFrom, heldLoad}
+use Rattle.journal.specs.WorkspaceJournal.{NamedEdits, WorkspaceJournal, with, emptyIn, keptUnder, keepUnder, isKept, isNinth, WorkspaceCall, onSheet, keep, return, lentIn, journalSheet, keepRefusal, journalKeep, returned, journalReturn, journalStepIn, journalAfterIn}
+use Rattle.journal.specs.WorkspaceClaim.{afterIn, sheetCalls, HoldsLastLoadIn, isLoadIn, EmptyBeforeIn, BadName, GoodName, RefusesIn, ofSheet, emptyKeep, emptyReturn, badKeep, badReturn, ninth, noSuchName, RefusedExactlyIn}
+use Rattle.journal.proofs.Refusals.{load-from, no-load, empty-seven, never, told, says}
+use Rattle.journal.proofs.Latest.{keep-journal}
 use Rattle.journal.proofs.WorkspaceAgrees.{answers-in}
 
 same-number : {w : WorkspaceJournal} {c : WorkspaceCall} {m n : ℕ} → RefusesIn w c m → _≡_ {A = Outcome (List ℕ)} (refused m) (refused n)
     → RefusesIn w c n
 same-number {w} {c} {m} {n} r e = let q : m ≡ n = cc in subst (λ (k : ℕ). RefusesIn w c k) q r
+
+-- ---- the last accepted load
+return-load : (j : Journal) (ks : List NamedEdits) (name : List ℕ) → heldLoad (journalReturn j ks name .1 .journal) ≡ heldLoad j
+unfolding journalReturn
+return-load empty ks name = refl
+return-load (holds f row) ks name = by (isBadName name) (keptUnder name ks)
+  where
+    by : (a : Bool) (o : Option (List Change))
+        → heldLoad (cond {A = Answer × WorkspaceJournal} a (no 16 [], with (holds f row) ks) (returned o f row ks) .1 .journal) ≡ some f
+    by true o = refl
+    by false none = refl
+    by false (some edits) = refl
+
+-- one call, then the others
+last-onward : (last : Option Focus) (c : Call) (cs : List Call) → lastFrom (lastFrom last (c ∷ [])) cs ≡ lastFrom last (c ∷ cs)
+unfolding lastFrom
+last-onward last (load block raw picture model) cs = refl
+last-onward last (change c) cs = refl
+last-onward last back cs = refl
+last-onward last (list buffer) cs = refl
+last-onward last (fit box buffer) cs = refl
+
+load-from-in : (cs : List WorkspaceCall) (w : WorkspaceJournal)
+    → heldLoad (journalAfterIn w cs .journal) ≡ lastFrom (heldLoad (w .journal)) (sheetCalls cs)
+unfolding journalAfterIn journalAfter journalStepIn journalSheet sheetCalls lastFrom
+load-from-in [] w = refl
+load-from-in (onSheet c ∷ cs) w =
+    load-from-in cs (journalSheet w c .1)
+    ∙ ap (λ (o : Option Focus). lastFrom o (sheetCalls cs)) (load-from (w .journal) (c ∷ []))
+    ∙ last-onward (heldLoad (w .journal)) c (sheetCalls cs)
+load-from-in (keep name ∷ cs) w =
+    load-from-in cs (journalKeep (w .journal) (w .names) name .1)
+    ∙ ap (λ (j : Journal). lastFrom (heldLoad j) (sheetCalls cs)) (keep-journal (w .journal) (w .names) name)
+load-from-in (return name ∷ cs) w =
+    load-from-in cs (journalReturn (w .journal) (w .names) name .1)
+    ∙ ap (λ (o : Option Focus). lastFrom o (sheetCalls cs)) (return-load (w .journal) (w .names) name)
+
+pub holds-last-load-in : HoldsLastLoadIn
+holds-last-load-in calls = load-from-in calls emptyIn
+
+-- ---- before a load
+empty-in : (ks : List NamedEdits) (c : WorkspaceCall) → isLoadIn c ≡ false → journalStepIn (with empty ks) c .0 ≡ no 7 (lentIn c)
+unfolding journalStepIn journalSheet journalKeep journalReturn
+empty-in ks (onSheet c) l = empty-seven c l
+empty-in ks (keep name) l = refl
+empty-in ks (return name) l = refl
+
+pub empty-before-in : EmptyBeforeIn
+empty-before-in calls c e l =
+    let w = afterIn calls in
+    let j : w .journal ≡ empty = no-load (w .journal) (holds-last-load-in calls ∙ e) in
+    answers-in calls c
+    ∙ ap (λ (i : Journal). journalStepIn (with i (w .names)) c .0) j
+    ∙ empty-in (w .names) c l
 
 -- ---- names
 module _ (name : List ℕ) where

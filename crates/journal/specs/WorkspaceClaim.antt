@@ -1,6 +1,6 @@
 -- 02, 2026-03: one claim over every list of a workspace's calls, and what follows from it. proofs/WorkspaceAgrees.antt proves the claim,
 -- and `EightAtMost`; what else follows is proved in proofs/Latest.antt (keeps and returns), KeptNames.antt (names), Alone.antt (a workspace
--- beside a sheet), RefusalsIn.antt and AnyWorkspace.antt (refused calls, and a workspace made by hand).
+-- beside a sheet), RefusalsIn.antt (the last load, and refused calls) and AnyWorkspace.antt (a workspace made by hand).
 use Prim.Native.Nat.{ℕ, _*_, _<_, _≤_}
 use mathlib.Core.Bool.{Bool, true, false, _&&_, cond}
 use mathlib.Core.List.{List, [], _∷_, _++_, map}
@@ -19,7 +19,7 @@ use Rattle.workspace.specs.Workspace.{freshWorkspace}
 use Rattle.journal.specs.Journal.{Change, Journal, empty, holds, presentFrame, Answer, no, ok, numbers, head}
 use Rattle.journal.specs.Calls.{Call, load, list, isLoad, journalStep}
 use Rattle.journal.specs.SheetCalls.{runSheet}
-use Rattle.journal.specs.Claim.{after, answer, shown, PrimaryListed, Refuses}
+use Rattle.journal.specs.Claim.{after, answer, lastLoad, heldLoad, shown, PrimaryListed, Refuses}
 use Rattle.journal.specs.WorkspaceJournal.{NamedEdits, WorkspaceJournal, with, emptyIn, keptUnder, WorkspaceCall, onSheet, keep, return, lentIn, runJournalIn, journalAfterIn}
 use Rattle.journal.specs.WorkspaceCalls.{workspaceStep, runWorkspace, workspaceAfter}
 
@@ -35,6 +35,29 @@ afterIn calls = journalAfterIn emptyIn calls
 
 abbrev pub answerIn : List WorkspaceCall → WorkspaceCall → Answer
 answerIn calls c = workspaceStep (workspaceAfter freshWorkspace calls) c .0
+
+-- ---- the last accepted load
+-- the sheet's calls of a list, without the keeps and returns among them
+unfoldable pub sheetCalls : List WorkspaceCall → List Call
+sheetCalls [] = []
+sheetCalls (onSheet c ∷ cs) = c ∷ sheetCalls cs
+sheetCalls (keep name ∷ cs) = sheetCalls cs
+sheetCalls (return name ∷ cs) = sheetCalls cs
+
+-- it is what the journal holds: no keep and no return brings another
+abbrev pub HoldsLastLoadIn : Type 0
+HoldsLastLoadIn = (calls : List WorkspaceCall) → heldLoad (afterIn calls .journal) ≡ lastLoad (sheetCalls calls)
+
+abbrev pub isLoadIn : WorkspaceCall → Bool
+isLoadIn (onSheet c) = isLoad c
+isLoadIn (keep name) = false
+isLoadIn (return name) = false
+
+-- before it the workspace is empty: any call but a load is refused by 7
+abbrev pub EmptyBeforeIn : Type 0
+EmptyBeforeIn =
+    (calls : List WorkspaceCall) (c : WorkspaceCall) → lastLoad (sheetCalls calls) ≡ none → isLoadIn c ≡ false →
+    answerIn calls c ≡ no 7 (lentIn c)
 
 -- ---- the latest accepted keep under a name since the last accepted load: the calls before it, if there is one
 -- what is known of it after one call more: an accepted load forgets it, an accepted keep under that name is it
@@ -106,13 +129,13 @@ SheetAlone = (calls : List Call) → runWorkspace freshWorkspace (map onSheet ca
 -- whatever is kept, a call of the sheet is judged by the sheet's journal alone, and leaves it as it does alone
 pub record AsOnSheet (calls : List WorkspaceCall) (c : Call) : Type 0 where
   pub answers : answerIn calls (onSheet c) ≡ journalStep (afterIn calls .journal) c .0
-  pub leaves : afterIn (calls ++ onSheet c ∷ []) .journal ≡ journalStep (afterIn calls .journal) c .1
+  pub next-journal : afterIn (calls ++ onSheet c ∷ []) .journal ≡ journalStep (afterIn calls .journal) c .1
 
 abbrev pub SheetsOwnCalls : Type 0
 SheetsOwnCalls = (calls : List WorkspaceCall) (c : Call) → AsOnSheet calls c
 
--- after any list of calls the workspace's sheet is one that a sheet's calls alone lead to, and answers as that one does; so all that is
--- said of a sheet after calls holds of it
+-- after any list of calls what the sheet's journal holds is what some list of the sheet's calls alone leads to, and a further call of the
+-- sheet is answered as after that list
 pub record AsSheet (calls : List WorkspaceCall) : Type 0 where
   pub alone : List Call
   pub same-journal : after alone ≡ afterIn calls .journal
@@ -185,11 +208,6 @@ LoadOnAnyIn =
     runWorkspace w (onSheet (load block raw picture model) ∷ calls) ≡ ok [] [] ∷ runJournalIn (with (holds f []) []) calls
 
 -- one whose count passes its places is empty to every call but load
-abbrev pub isLoadIn : WorkspaceCall → Bool
-isLoadIn (onSheet c) = isLoad c
-isLoadIn (keep name) = false
-isLoadIn (return name) = false
-
 abbrev pub UncountedIsEmpty : Type 0
 UncountedIsEmpty =
     (w : Workspace) (c : WorkspaceCall) → 8 < w .count → isLoadIn c ≡ false → workspaceStep w c ≡ (no 7 (lentIn c), w)

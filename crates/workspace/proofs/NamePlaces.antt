@@ -12,8 +12,8 @@ use borrow.Author.Tests.{le-leb, lt-leb}
 use Rattle.laws.proofs.Collect.{Collected, stored, finished}
 use Rattle.numbers.specs.Bytes.{same}
 use Rattle.workspace.specs.declared.Checkpoint.{Checkpoint}
-use Rattle.workspace.specs.Names.{inPlaces, isNamed}
-use Rattle.workspace.specs.Workspace.{noCheckpoint, placeIn}
+use Rattle.workspace.specs.Names.{inPlaces, holdsName}
+use Rattle.workspace.specs.Workspace.{noCheckpoint, placeAmong}
 
 -- ---- laid into places
 -- the first i bytes of a name are laid
@@ -36,21 +36,21 @@ laid-all name places i l h =
 
 -- ---- compared
 module _ (name places : List ℕ) (len : ℕ) where
-  pub too-long : 16 < len → false ≡ isNamed name places len
-  unfolding isNamed
+  pub too-long : 16 < len → false ≡ holdsName name places len
+  unfolding holdsName
   too-long h = rw (lt-leb len 16 h)
 
-  pub compared : len ≤ 16 → (r : Bool) → r ≡ same (take len places) name → r ≡ isNamed name places len
-  unfolding isNamed
+  pub compared : len ≤ 16 → (r : Bool) → r ≡ same (take len places) name → r ≡ holdsName name places len
+  unfolding holdsName
   compared h r e = rw (le-leb len 16 h) e
 
 -- ---- looked up
 -- none of the first i has the name: the place is i and that among the others
 abbrev pub Passed : List ℕ → List Checkpoint → ℕ → Type 0
-Passed name ps i = i + placeIn name (drop i ps) ≡ placeIn name ps
+Passed name ps i = i + placeAmong name (drop i ps) ≡ placeAmong name ps
 
 pub passed-none : (name : List ℕ) (ps : List Checkpoint) → Passed name ps 0
-passed-none name ps = zero-add (placeIn name ps)
+passed-none name ps = zero-add (placeAmong name ps)
 
 pub within : {k n l : ℕ} → l ≡ n → k ≤ n → k ≤ l
 within e h = omega arith
@@ -60,27 +60,27 @@ module _ (name : List ℕ) (ps : List Checkpoint) (k : ℕ) (h : k ≤ length ps
   long : length (take k ps) ≡ k
   long = length-take-le k ps h
 
-  module _ (l : i < k) (b : Bool) (e : b ≡ isNamed name (getD ps i noCheckpoint .name) (getD ps i noCheckpoint .len)) where
+  module _ (l : i < k) (b : Bool) (e : b ≡ holdsName name (getD ps i noCheckpoint .name) (getD ps i noCheckpoint .len)) where
     first : drop i (take k ps) ≡ getD ps i noCheckpoint ∷ drop (suc i) (take k ps)
     first =
         drop-cons (take k ps) i noCheckpoint (omega (arith, long))
         ∙ ap (λ (q : Checkpoint). q ∷ drop (suc i) (take k ps)) (getD-take k ps i noCheckpoint l)
 
-    pub found : b ≡ true → i ≡ placeIn name (take k ps)
-    unfolding placeIn
+    pub found : b ≡ true → i ≡ placeAmong name (take k ps)
+    unfolding placeAmong
     found t =
-        let z : placeIn name (drop i (take k ps)) ≡ 0 = rw (first, ← e, t) in
+        let z : placeAmong name (drop i (take k ps)) ≡ 0 = rw (first, ← e, t) in
         omega (arith, p, z)
 
     pub passed-one : b ≡ false → Passed name (take k ps) (i + 1)
-    unfolding placeIn
+    unfolding placeAmong
     passed-one t =
-        let z : placeIn name (drop i (take k ps)) ≡ suc (placeIn name (drop (suc i) (take k ps))) = rw (first, ← e, t) in
+        let z : placeAmong name (drop i (take k ps)) ≡ suc (placeAmong name (drop (suc i) (take k ps))) = rw (first, ← e, t) in
         rw add-one (omega (arith, p, z))
 
-  pub none-has : k ≤ i → i ≡ placeIn name (take k ps)
-  unfolding placeIn
+  pub none-has : k ≤ i → i ≡ placeAmong name (take k ps)
+  unfolding placeAmong
   none-has g =
       let e : length (take k ps) ≤ i = omega (arith, long) in
-      let z : placeIn name (drop i (take k ps)) ≡ 0 = rw (drop-of-length-le (take k ps) e) in
+      let z : placeAmong name (drop i (take k ps)) ≡ 0 = rw (drop-of-length-le (take k ps) e) in
       omega (arith, p, z)

@@ -15,5 +15,5 @@ unfoldable pub inPlaces : List ℕ → List ℕ
 inPlaces name = name ++ replicate (16 - length name) 0
 
 -- whether the first `len` of 16 places hold this name, byte for byte. By hand, a length that passes the places is of no name
-unfoldable pub isNamed : List ℕ → List ℕ → ℕ → Bool
-isNamed name stored len = leb len 16 && same (take len stored) name
+unfoldable pub holdsName : List ℕ → List ℕ → ℕ → Bool
+holdsName name stored len = leb len 16 && same (take len stored) name

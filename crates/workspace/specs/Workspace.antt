@@ -20,7 +20,7 @@ use Rattle.workspace.specs.declared.CheckpointAnswer.the-variants.{Accep
 use Rattle.workspace.specs.declared.Checkpointed.{Checkpointed}
 use Rattle.workspace.specs.declared.EditedWorkspace.{EditedWorkspace}
 use Rattle.workspace.specs.declared.LoadedWorkspace.{LoadedWorkspace}
-use Rattle.workspace.specs.Names.{isBadName, inPlaces, isNamed}
+use Rattle.workspace.specs.Names.{isBadName, inPlaces, holdsName}
 
 -- ---- what the code's values mean
 -- of keep and return: accepted, with no numbers to give, or refused by the documents' number
@@ -93,12 +93,12 @@ unfoldable pub ifNamed : Workspace → List ℕ → Outcome (List ℕ) × Worksp
 ifNamed w name r = cond (usableIn w) (cond (isBadName name) (keptBy 16 w) r) (keptBy 7 w)
 
 -- the place of a name: how many checkpoints stand before the first that has it, all of them where none has
-unfoldable pub placeIn : List ℕ → List Checkpoint → ℕ
-placeIn name [] = 0
-placeIn name (p ∷ ps) = cond (isNamed name (p .name) (p .len)) 0 (suc (placeIn name ps))
+unfoldable pub placeAmong : List ℕ → List Checkpoint → ℕ
+placeAmong name [] = 0
+placeAmong name (p ∷ ps) = cond (holdsName name (p .name) (p .len)) 0 (suc (placeAmong name ps))
 
 abbrev pub placeOf : Workspace → List ℕ → ℕ
-placeOf w name = placeIn name (take (w .count) (w .checkpoints))
+placeOf w name = placeAmong name (take (w .count) (w .checkpoints))
 
 -- the standing edits under a name
 unfoldable pub checkpointOf : Sheet → List ℕ → Checkpoint

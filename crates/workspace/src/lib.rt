@@ -255,7 +255,7 @@ impl Workspace {
         while i < count {
             let p = self.checkpoints[i];
             let stored = p.name;
-            if crate::names::is_named(stored, p.len, name) {
+            if crate::names::holds_name(stored, p.len, name) {
                 return i;
             }
             i += 1;

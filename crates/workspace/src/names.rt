@@ -1,6 +1,6 @@
 // Names of 1 to 16 bytes.
 ghost use mathlib.Core.Path.{_≡_};
-ghost use Rattle.workspace.specs.Names.{isBadName, isNamed};
+ghost use Rattle.workspace.specs.Names.{isBadName, holdsName};
 
 const LONGEST_NAME: usize = 16;
 
@@ -15,8 +15,8 @@ pub fn is_bad_name(name: &[u8]) -> bool
 }
 
 // Whether the first bytes of 16 are this name.
-pub fn is_named(stored: [u8; 16], len: usize, name: &[u8]) -> bool
-    ensures { λ r. ⌜ r ≡ isNamed (now (name .entry)) stored len ⌝ }
+pub fn holds_name(stored: [u8; 16], len: usize, name: &[u8]) -> bool
+    ensures { λ r. ⌜ r ≡ holdsName (now (name .entry)) stored len ⌝ }
 {
     if LONGEST_NAME < len {
         return false;

@@ -154,19 +154,25 @@ fn nanoseconds_of(time: impl Fn(u32) -> Duration) -> f64 {
     time(count).saturating_sub(without).as_secs_f64() * 1e9 / count as f64
 }
 
-/// One kind of calls on a state. Both sides must end alike, after one call and after some, before their times mean anything.
-fn state_row(program: &Path, load: &[u8], sheet: states::Sheet, (kind, name): (u8, &str)) {
-    let plain = |count| states::plain(sheet, kind, count, &mut [0; focuspoints::LISTING]);
+/// Nanoseconds for one call of a kind by the plain states, which must end as the program does before their time means anything.
+fn plain_time<C: states::Calling>(program: &Path, load: &[u8], sheet: states::Sheet, (kind, name): (u8, &str)) -> f64 {
+    let plain = |count| states::plain::<C>(sheet, kind, count, &mut [0; focuspoints::LISTING]);
     for count in [1, 65] {
         assert_eq!(plain(count), program_text(program, &states::job(load, kind, count)), "{name}");
     }
-    let theirs = nanoseconds_of(|count| {
+    nanoseconds_of(|count| {
         shortest(|| {
             black_box(plain(black_box(count)));
         })
-    });
-    let own = nanoseconds_of(|count| program_time(program, &states::job(load, kind, count)));
-    println!("| {name} | {theirs:.0} | {own:.0} | {:.1} |", own / theirs);
+    })
+}
+
+/// One kind of calls on a state.
+fn state_row(program: &Path, load: &[u8], sheet: states::Sheet, kind: (u8, &str)) {
+    let apart = plain_time::<states::Apart>(program, load, sheet, kind);
+    let drawn_in = plain_time::<states::DrawnIn>(program, load, sheet, kind);
+    let own = nanoseconds_of(|count| program_time(program, &states::job(load, kind.0, count)));
+    println!("| {} | {apart:.0} | {drawn_in:.0} | {own:.0} | {:.1} | {:.1} |", kind.1, own / apart, own / drawn_in);
 }
 
 /// Calls on a sheet and on a workspace, each kind that state_bench has.
@@ -178,8 +184,8 @@ fn states_table(root: &Path) {
     let sheet = states::Sheet::of(&listing);
     assert_eq!(states::listed_turned(sheet), listed_behind(&[6]));
     let [small, large] = states::sizes();
-    println!("| call, the state handed on by value | a plain state in Rust, no call drawn in, ns | here, ns | times as long |");
-    println!("|---|---|---|---|");
+    println!("| call, the state handed on by value | plain Rust, calls apart, ns | plain Rust, calls drawn in, ns | here, ns | times the first | times the second |");
+    println!("|---|---|---|---|---|---|");
     states::KINDS.iter().for_each(|&kind| state_row(&program, load, sheet, kind));
     println!();
     println!("The plain sheet has {small} bytes, the plain workspace {large}.");

@@ -1,5 +1,5 @@
 //! Calls made many times over on a state that is handed on by value, as one would write them in Rust: what those of state_bench are timed
-//! beside. The states have the sizes of its own, and no call is drawn into its caller.
+//! beside. The states have the sizes of its own, and a call is drawn into the loop that makes it, or is not.
 
 use std::hint::black_box;
 
@@ -56,7 +56,7 @@ impl Sheet {
         self.loaded && self.count <= 39 && self.primary < self.count && self.standing <= 64
     }
 
-    #[inline(never)]
+    #[inline(always)]
     fn orient(mut self, number: u32) -> (u32, Sheet) {
         if !self.is_usable() {
             return (7, self);
@@ -73,7 +73,7 @@ impl Sheet {
         (0, self)
     }
 
-    #[inline(never)]
+    #[inline(always)]
     fn back(mut self) -> (u32, Sheet) {
         if !self.is_usable() {
             return (7, self);
@@ -86,7 +86,7 @@ impl Sheet {
     }
 
     /// The listing's head in six numbers, and the points in the buffer. Only orientations stand here.
-    #[inline(never)]
+    #[inline(always)]
     fn list(self, out: &mut [u32]) -> Result<[u32; 6], u32> {
         if !self.is_usable() {
             return Err(7);
@@ -130,26 +130,26 @@ impl Workspace {
         self.checkpoints[..self.count].iter().position(|kept| &kept.name[..kept.len] == name)
     }
 
-    #[inline(never)]
+    #[inline(always)]
     fn orient(mut self, number: u32) -> (u32, Workspace) {
         let (answer, sheet) = self.sheet.orient(number);
         self.sheet = sheet;
         (answer, self)
     }
 
-    #[inline(never)]
+    #[inline(always)]
     fn back(mut self) -> (u32, Workspace) {
         let (answer, sheet) = self.sheet.back();
         self.sheet = sheet;
         (answer, self)
     }
 
-    #[inline(never)]
+    #[inline(always)]
     fn list(self, out: &mut [u32]) -> Result<[u32; 6], u32> {
         self.sheet.list(out)
     }
 
-    #[inline(never)]
+    #[inline(always)]
     fn keep(mut self, name: &[u8]) -> (u32, Workspace) {
         if !self.sheet.is_usable() {
             return (7, self);
@@ -170,7 +170,7 @@ impl Workspace {
         (0, self)
     }
 
-    #[inline(never)]
+    #[inline(always)]
     fn return_to(mut self, name: &[u8]) -> (u32, Workspace) {
         if !self.sheet.is_usable() {
             return (7, self);
@@ -193,6 +193,31 @@ fn name_at(place: u8) -> [u8; 16] {
     name
 }
 
+/// How a call is made.
+pub trait Calling {
+    fn call<State, Left>(state: State, call: impl FnOnce(State) -> Left) -> Left;
+}
+
+/// As a function of its own, which the state is handed to.
+pub struct Apart;
+
+impl Calling for Apart {
+    #[inline(never)]
+    fn call<State, Left>(state: State, call: impl FnOnce(State) -> Left) -> Left {
+        call(state)
+    }
+}
+
+/// In the loop itself, where the compiler may save copies of the state.
+pub struct DrawnIn;
+
+impl Calling for DrawnIn {
+    #[inline(always)]
+    fn call<State, Left>(state: State, call: impl FnOnce(State) -> Left) -> Left {
+        call(state)
+    }
+}
+
 /// What a call is answered, so many times over, at last; and the state that it leaves.
 fn over<State>(mut state: State, count: u32, mut once: impl FnMut(State) -> (u32, State)) -> (Option<u32>, State) {
     let mut last = None;
@@ -208,22 +233,34 @@ fn list_number(answer: Result<[u32; 6], u32>) -> u32 {
     black_box(answer).err().unwrap_or(0)
 }
 
+/// A turn and a back, a keep and a return: the second on what the first leaves.
+fn both<C: Calling, State>(state: State, first: impl Fn(State) -> (u32, State), second: impl Fn(State) -> (u32, State)) -> (u32, State) {
+    C::call(C::call(state, first).1, second)
+}
+
 /// What state_bench prints for a job, by the plain states. `out` is where lists go.
-pub fn plain(sheet: Sheet, kind: u8, count: u32, out: &mut [u32]) -> String {
+pub fn plain<C: Calling>(sheet: Sheet, kind: u8, count: u32, out: &mut [u32]) -> String {
     let sheet = sheet.orient(TURN).1;
     let workspace = (0..8).fold(Workspace::new(sheet), |workspace, place| workspace.keep(&name_at(place)).1);
     let name = name_at(7);
     let on_sheet = |(last, sheet): (_, Sheet)| (last, sheet.standing);
     let on_workspace = |(last, workspace): (_, Workspace)| (last, workspace.sheet.standing);
+    let keep = |workspace: Workspace| workspace.keep(black_box(&name));
     let (last, standing) = match kind {
-        1 => on_sheet(over(sheet, count, |sheet| sheet.orient(black_box(TURN)).1.back())),
-        2 => on_workspace(over(workspace, count, |workspace| workspace.orient(black_box(TURN)).1.back())),
-        3 => on_workspace(over(workspace, count, |workspace| workspace.keep(black_box(&name)).1.return_to(black_box(&name)))),
-        4 => on_workspace(over(workspace, count, |workspace| workspace.keep(black_box(&name)))),
-        5 => on_sheet(over(sheet, count, |sheet| (list_number(sheet.list(black_box(out))), sheet))),
-        6 => on_workspace(over(workspace, count, |workspace| (list_number(workspace.list(black_box(out))), workspace))),
-        7 => on_sheet(over(sheet, count, |sheet| sheet.orient(black_box(0)))),
-        8 => on_workspace(over(workspace, count, |workspace| workspace.orient(black_box(0)))),
+        1 => on_sheet(over(sheet, count, |sheet| both::<C, _>(sheet, |sheet| sheet.orient(black_box(TURN)), Sheet::back))),
+        2 => on_workspace(over(workspace, count, |workspace| {
+            both::<C, _>(workspace, |workspace| workspace.orient(black_box(TURN)), Workspace::back)
+        })),
+        3 => on_workspace(over(workspace, count, |workspace| {
+            both::<C, _>(workspace, keep, |workspace| workspace.return_to(black_box(&name)))
+        })),
+        4 => on_workspace(over(workspace, count, |workspace| C::call(workspace, keep))),
+        5 => on_sheet(over(sheet, count, |sheet| (list_number(C::call(sheet, |sheet| sheet.list(black_box(out)))), sheet))),
+        6 => on_workspace(over(workspace, count, |workspace| {
+            (list_number(C::call(workspace, |workspace| workspace.list(black_box(out)))), workspace)
+        })),
+        7 => on_sheet(over(sheet, count, |sheet| C::call(sheet, |sheet| sheet.orient(black_box(0))))),
+        8 => on_workspace(over(workspace, count, |workspace| C::call(workspace, |workspace| workspace.orient(black_box(0))))),
         _ => panic!("no kind {kind}"),
     };
     let answer = match last {

@@ -23,11 +23,11 @@ mul-p c = omega (arith, (c .before .before .before .pre))
 element-copy-out-p : tie.Need-element-copy-out-p Inv-loop μ-loop
 element-copy-out-p c = omega (arith, (c .before .before .before .pre))
 
-is-named-requires : tie.Need-is-named-requires Inv-loop μ-loop
-is-named-requires c κs = search needs
+holds-name-requires : tie.Need-holds-name-requires Inv-loop μ-loop
+holds-name-requires c κs = search needs
 
 returns : tie.Need-returns Inv-loop μ-loop
-returns c = found _ _ _ (within (unmapped _ ((c .before .before .before .before .before .before .before .args .t1) .checkpoints) 8 (c .before .before .before .before .before .before .before .good .0 .1 .1 .1 .0 .1 .0 .1)) (c .before .before .before .before .before .before .before .pre)) _ (c .before .before .before .before .before .loop .inv .1) (c .before .before .before .before .loop-test .taken) _ (c .before .is-named .ensures) (c .if1 .taken)
+returns c = found _ _ _ (within (unmapped _ ((c .before .before .before .before .before .before .before .args .t1) .checkpoints) 8 (c .before .before .before .before .before .before .before .good .0 .1 .1 .1 .0 .1 .0 .1)) (c .before .before .before .before .before .before .before .pre)) _ (c .before .before .before .before .before .loop .inv .1) (c .before .before .before .before .loop-test .taken) _ (c .before .holds-name .ensures) (c .if1 .taken)
 
 add-i : tie.Need-add-i Inv-loop μ-loop
 add-i c = omega (arith, (c .before .before .before .before .before .before .before .pre))
@@ -36,7 +36,7 @@ loop-less : tie.Need-loop-less Inv-loop μ-loop
 loop-less c = omega arith
 
 loop-again : tie.Need-loop-again Inv-loop μ-loop
-loop-again c = (omega arith, passed-one _ _ _ (within (unmapped _ ((c .before .before .before .before .before .before .before .args .t1) .checkpoints) 8 (c .before .before .before .before .before .before .before .good .0 .1 .1 .1 .0 .1 .0 .1)) (c .before .before .before .before .before .before .before .pre)) _ (c .before .before .before .before .before .loop .inv .1) (c .before .before .before .before .loop-test .taken) _ (c .before .is-named .ensures) (c .if1 .left))
+loop-again c = (omega arith, passed-one _ _ _ (within (unmapped _ ((c .before .before .before .before .before .before .before .args .t1) .checkpoints) 8 (c .before .before .before .before .before .before .before .good .0 .1 .1 .1 .0 .1 .0 .1)) (c .before .before .before .before .before .before .before .pre)) _ (c .before .before .before .before .before .loop .inv .1) (c .before .before .before .before .loop-test .taken) _ (c .before .holds-name .ensures) (c .if1 .left))
 
 returns-2 : tie.Need-returns-2 Inv-loop μ-loop
 returns-2 c = none-has _ _ _ (within (unmapped _ ((c .before .before .before .args .t1) .checkpoints) 8 (c .before .before .before .good .0 .1 .1 .1 .0 .1 .0 .1)) (c .before .before .before .pre)) _ (c .before .loop .inv .1) (c .loop-test .left)
@@ -50,7 +50,7 @@ place-of-spec =
     loop-holds
     mul-p
     element-copy-out-p
-    is-named-requires
+    holds-name-requires
     returns
     add-i
     loop-less

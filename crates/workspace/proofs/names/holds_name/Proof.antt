@@ -1,12 +1,12 @@
--- `is_named`: by the length, then from what `equals` ensures. Assumes nothing.
+-- `holds_name`: by the length, then from what `equals` ensures. Assumes nothing.
 use mathlib.Core.Path.{_≡_, sym}
 use lib.ListN.{length}
 use lib.Seq.{length-take-le}
 use native.Mathlib.Omega.{arith}
 use Rattle.workspace.proofs.NamePlaces.{too-long, compared}
 use borrow.Author.Needs.{needs}
-use Rattle.workspace.proofs.names.is_named.Statement.{statement}
-use Rattle.workspace.proofs.names.is_named.Tie as tie
+use Rattle.workspace.proofs.names.holds_name.Statement.{statement}
+use Rattle.workspace.proofs.names.holds_name.Tie as tie
 
 returns : tie.Need-returns
 returns c = too-long _ _ _ (c .if1 .taken)
@@ -23,7 +23,7 @@ equals-requires c κs = search needs
 returns-2 : tie.Need-returns-2
 returns-2 c = compared _ _ _ (c .before .before .if1 .left) _ (c .equals .ensures)
 
-pub is-named-spec : {M : Type 1} → statement M
-is-named-spec =
+pub holds-name-spec : {M : Type 1} → statement M
+holds-name-spec =
     tie.close
     (tie.spec returns array-share-prefix-stored slice-aggregate-equals equals-requires returns-2)
