@@ -170,9 +170,9 @@ fn plain_time<C: states::Calling>(program: &Path, load: &[u8], sheet: states::Sh
 /// One kind of calls on a state.
 fn state_row(program: &Path, load: &[u8], sheet: states::Sheet, kind: (u8, &str)) {
     let apart = plain_time::<states::Apart>(program, load, sheet, kind);
-    let drawn_in = plain_time::<states::DrawnIn>(program, load, sheet, kind);
+    let free = plain_time::<states::Free>(program, load, sheet, kind);
     let own = nanoseconds_of(|count| program_time(program, &states::job(load, kind.0, count)));
-    println!("| {} | {apart:.0} | {drawn_in:.0} | {own:.0} | {:.1} | {:.1} |", kind.1, own / apart, own / drawn_in);
+    println!("| {} | {apart:.0} | {free:.0} | {own:.0} | {:.1} | {:.1} |", kind.1, own / apart, own / free);
 }
 
 /// Calls on a sheet and on a workspace, each kind that state_bench has.
@@ -184,7 +184,7 @@ fn states_table(root: &Path) {
     let sheet = states::Sheet::of(&listing);
     assert_eq!(states::listed_turned(sheet), listed_behind(&[6]));
     let [small, large] = states::sizes();
-    println!("| call, the state handed on by value | plain Rust, calls apart, ns | plain Rust, calls drawn in, ns | here, ns | times the first | times the second |");
+    println!("| call, the state handed on by value | plain Rust, calls apart, ns | plain Rust, calls as the compiler likes, ns | here, ns | times the first | times the second |");
     println!("|---|---|---|---|---|---|");
     states::KINDS.iter().for_each(|&kind| state_row(&program, load, sheet, kind));
     println!();

@@ -1,5 +1,5 @@
 //! Calls made many times over on a state that is handed on by value, as one would write them in Rust: what those of state_bench are timed
-//! beside. The states have the sizes of its own, and a call is drawn into the loop that makes it, or is not.
+//! beside. The states have the sizes of its own, and a call stands apart from the loop that makes it, or the compiler is free to draw it in.
 
 use std::hint::black_box;
 
@@ -56,7 +56,6 @@ impl Sheet {
         self.loaded && self.count <= 39 && self.primary < self.count && self.standing <= 64
     }
 
-    #[inline(always)]
     fn orient(mut self, number: u32) -> (u32, Sheet) {
         if !self.is_usable() {
             return (7, self);
@@ -73,7 +72,6 @@ impl Sheet {
         (0, self)
     }
 
-    #[inline(always)]
     fn back(mut self) -> (u32, Sheet) {
         if !self.is_usable() {
             return (7, self);
@@ -86,7 +84,6 @@ impl Sheet {
     }
 
     /// The listing's head in six numbers, and the points in the buffer. Only orientations stand here.
-    #[inline(always)]
     fn list(self, out: &mut [u32]) -> Result<[u32; 6], u32> {
         if !self.is_usable() {
             return Err(7);
@@ -130,26 +127,22 @@ impl Workspace {
         self.checkpoints[..self.count].iter().position(|kept| &kept.name[..kept.len] == name)
     }
 
-    #[inline(always)]
     fn orient(mut self, number: u32) -> (u32, Workspace) {
         let (answer, sheet) = self.sheet.orient(number);
         self.sheet = sheet;
         (answer, self)
     }
 
-    #[inline(always)]
     fn back(mut self) -> (u32, Workspace) {
         let (answer, sheet) = self.sheet.back();
         self.sheet = sheet;
         (answer, self)
     }
 
-    #[inline(always)]
     fn list(self, out: &mut [u32]) -> Result<[u32; 6], u32> {
         self.sheet.list(out)
     }
 
-    #[inline(always)]
     fn keep(mut self, name: &[u8]) -> (u32, Workspace) {
         if !self.sheet.is_usable() {
             return (7, self);
@@ -170,7 +163,6 @@ impl Workspace {
         (0, self)
     }
 
-    #[inline(always)]
     fn return_to(mut self, name: &[u8]) -> (u32, Workspace) {
         if !self.sheet.is_usable() {
             return (7, self);
@@ -208,10 +200,10 @@ impl Calling for Apart {
     }
 }
 
-/// In the loop itself, where the compiler may save copies of the state.
-pub struct DrawnIn;
+/// As the compiler likes: drawn into the loop, where it may save copies of the state, or not.
+pub struct Free;
 
-impl Calling for DrawnIn {
+impl Calling for Free {
     #[inline(always)]
     fn call<State, Left>(state: State, call: impl FnOnce(State) -> Left) -> Left {
         call(state)
