@@ -1,6 +1,7 @@
 -- 02, 2026-03: one claim over every list of a workspace's calls, and what follows from it. proofs/WorkspaceAgrees.antt proves the claim,
--- and `EightAtMost`; what else follows is proved in proofs/Latest.antt (keeps and returns), KeptNames.antt (names), Alone.antt (a workspace
--- beside a sheet), RefusalsIn.antt (the last load, and refused calls) and AnyWorkspace.antt (a workspace made by hand).
+-- and `EightAtMost`; what else follows is proved in proofs/Latest.antt (keeps and returns, and `NamesAreKept`), KeptNames.antt (names),
+-- Alone.antt (a workspace beside a sheet), RefusalsIn.antt (the last load, and when a call is refused) and AnyWorkspace.antt (what a refused
+-- call keeps, and a workspace made by hand).
 use Prim.Native.Nat.{ℕ, _*_, _<_, _≤_}
 use mathlib.Core.Bool.{Bool, true, false, _&&_, cond}
 use mathlib.Core.List.{List, [], _∷_, _++_, map}
