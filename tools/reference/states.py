@@ -3,9 +3,10 @@
 states.py --check    say whether the files are what would be written
 
 Writes the jobs of the program state_bench, stdin of that crate, each kind of it
-some times over, and what it must print, its stdout: what the book of
-reference.py answers to the last of the same calls, and how many edits then
-stand. The times themselves are taken by tools/bench.
+some times over, behind one turn and, for lists, behind none, 32 and 64 equal
+edits; and what it must print, its stdout: what the book of reference.py answers
+to the last of the same calls, and how many edits then stand. The times
+themselves are taken by tools/bench.
 """
 
 import struct
@@ -21,6 +22,8 @@ import stored
 LOAD = (None, None, reference.MODEL, reference.build_block((reference.RECORD, 7, 30, b"0100\0\0\3\1\xff\xff\xff\xff\x7f".ljust(30, b"\0"))))
 NAMES = [b"n" * 15 + bytes([place]) for place in range(8)]
 TURN, LIST = calls.orient(6), calls.show(240)
+# The edits that stand before lists. The cut is of the whole frame: it can be made again, and every point stays.
+EQUAL = [TURN, calls.orient(2), calls.cut(0, 0, *reference.WHOLE_FRAME)]
 
 # What each kind does once. Kinds 1 and 2, 5 and 6, 7 and 8 are of a sheet and of a workspace.
 KINDS = {
@@ -35,10 +38,10 @@ KINDS = {
 }
 
 
-def printed(kind, count):
+def printed(kind, count, standing, edit):
     """The line for a job."""
     book = reference.Book()
-    for call in [calls.load(*LOAD), TURN, *map(calls.keep, NAMES)]:
+    for call in [calls.load(*LOAD), *[edit] * standing, *map(calls.keep, NAMES)]:
         calls.answer(book, call)
     last = "none"
     for call in KINDS[kind] * count:
@@ -50,8 +53,9 @@ def printed(kind, count):
 
 def files():
     """The files, as (path, bytes)."""
-    jobs = [(kind, count) for kind in KINDS for count in (0, 1, 65)]
-    records = [calls.load(*LOAD)] + [struct.pack(">BI", *job) for job in jobs + [(0, 1)]]
+    jobs = [(kind, count, 1, TURN) for kind in KINDS for count in (0, 1, 65)]
+    jobs += [(kind, 2, standing, edit) for kind in (5, 6) for edit in EQUAL for standing in (0, 32, 64)]
+    records = [calls.load(*LOAD)] + [struct.pack(">BIB", *job[:3]) + job[3] for job in jobs + [(0, 1, 0, b"")]]
     yield "crates/state_bench/stdin", b"".join(record.ljust(stored.RECORD, b"\0") for record in records)
     yield "crates/state_bench/stdout", ("".join(printed(*job) for job in jobs) + "kind 0, times 1: no such kind\n").encode()
 

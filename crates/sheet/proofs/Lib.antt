@@ -6,4 +6,5 @@ pub mod Oriented
 pub mod Present
 pub mod Product
 pub mod Usable
+pub mod Walked
 pub mod Words

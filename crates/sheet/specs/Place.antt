@@ -69,3 +69,8 @@ editAt ws i =
 unfoldable pub placed : Size → FocusPoint → List ℕ → ℕ → Carried
 placed f p ws zero = record { listed = true; point = p; frame = f }
 placed f p ws (suc n) = moved (editAt ws n) (placed f p ws n)
+
+-- the same from the front: q moved by the n edits from index i on, the first of them first
+unfoldable pub walked : List ℕ → ℕ → ℕ → Carried → Carried
+walked ws i zero q = q
+walked ws i (suc n) q = walked ws (suc i) n (moved (editAt ws i) q)

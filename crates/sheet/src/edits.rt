@@ -3,6 +3,7 @@ use crate::orientation::OptionalOrientation;
 use crate::orientation::Orientation;
 use crate::subtraction::less;
 use placing::focus::FocusPoint;
+use reading::focus::InFocus;
 use reading::geometry::Point;
 use reading::geometry::Size;
 ghost use mathlib.Core.Path.{_≡_};
@@ -11,7 +12,8 @@ ghost use Prim.Native.Nat.{_+_, _<_, _≤_, min};
 ghost use lib.Dec.{leb};
 ghost use Rattle.reading.specs.Outcome.{numberOf};
 ghost use Rattle.sheet.specs.Answer.{editMeans};
-ghost use Rattle.sheet.specs.Place.{shiftedPoint, staysOn, cutPoint, moved, wordsOf, editAt, placed, isGoodCut};
+ghost use Rattle.sheet.specs.Place.{shiftedPoint, staysOn, cutPoint, moved, wordsOf, editAt, placed, walked, isGoodCut};
+ghost use Rattle.sheet.specs.Inside.{carried, carriedOf};
 
 // One of the eight orientations, or a cut to a rectangle.
 pub enum Edit {
@@ -192,30 +194,122 @@ fn edit_at(words: &[u32; 320], i: usize) -> Edit
     }
 }
 
-// The place of a point of the frame after the first n edits: its place after one less, moved by the last of them.
-fn place(frame: Size, point: FocusPoint, words: &[u32; 320], n: usize) -> Carried
-    requires { ⌜ n ≤ 64 ⌝ }
-    ensures { λ r. ⌜ r ≡ placed frame point (now (words .entry)) n ⌝ }
+// The point and frame that a walk ends with: six numbers, the center, the area's sides and the frame's, each across and then down.
+fn carried_of(listed: bool, number: u32, in_focus: InFocus, end: [u32; 6]) -> Carried
+    ensures { λ r. ⌜ r ≡ carriedOf listed number in_focus end ⌝ }
+{
+    let center = Point {
+        x: end[0],
+        y: end[1],
+    };
+    let size = Size {
+        width: end[2],
+        height: end[3],
+    };
+    let frame = Size {
+        width: end[4],
+        height: end[5],
+    };
+    let point = FocusPoint {
+        number,
+        center,
+        size,
+        in_focus,
+    };
+    Carried {
+        listed,
+        point,
+        frame,
+    }
+}
+
+// Carries a point and its frame through n edits, from the one at index i on: through that edit, and then, from where it leaves them,
+// through one less. Tells whether no cut dropped the point, and leaves the six numbers of `carried_of` in `end`. The call is the last
+// thing done, what is carried goes along in numbers, and a truth comes back: so the compiler makes a loop of it. A whole `Carried`,
+// passed or given back, would lie in memory at every edit, and the calls would stay open.
+fn walk(
+    words: &[u32; 320],
+    i: usize,
+    n: usize,
+    listed: bool,
+    number: u32,
+    center: Point,
+    size: Size,
+    in_focus: InFocus,
+    frame: Size,
+    end: &mut [u32; 6],
+) -> bool
+    requires { ⌜ i + n ≤ 64 ⌝ }
+    ensures { λ r. ⌜ carriedOf r number in_focus (now (end .exit)) ≡ walked (now (words .entry)) i n (carried listed number center size in_focus frame) ⌝ }
 {
     if n == 0 {
-        return Carried {
-            listed: true,
-            point,
-            frame,
-        };
+        *end = [
+            center.x,
+            center.y,
+            size.width,
+            size.height,
+            frame.width,
+            frame.height,
+        ];
+        return listed;
     }
-    let m = n - 1;
-    let before = place(frame, point, words, m);
-    let edit = edit_at(words, m);
-    move_by(edit, before)
+    let point = FocusPoint {
+        number,
+        center,
+        size,
+        in_focus,
+    };
+    let place = Carried {
+        listed,
+        point,
+        frame,
+    };
+    let next = move_by(edit_at(words, i), place);
+    let to = next.point;
+    let center = to.center;
+    let size = to.size;
+    let frame = next.frame;
+    walk(
+        words,
+        i + 1,
+        n - 1,
+        next.listed,
+        number,
+        center,
+        size,
+        in_focus,
+        frame,
+        end,
+    )
+}
+
+// How many of n edits the words hold.
+fn held(n: usize) -> usize
+    ensures { λ r. ⌜ r ≡ min n 64 ⌝ }
+{
+    if 64 < n { 64 } else { n }
 }
 
 // The place of a point of the frame after the first n edits; after 64, which is all that the words hold, where there are to be more.
 pub fn place_after(frame: Size, point: FocusPoint, words: &[u32; 320], n: usize) -> Carried
     ensures { λ r. ⌜ r ≡ placed frame point (now (words .entry)) (min n 64) ⌝ }
 {
-    if 64 < n {
-        return place(frame, point, words, 64);
-    }
-    place(frame, point, words, n)
+    let number = point.number;
+    let center = point.center;
+    let size = point.size;
+    let in_focus = point.in_focus;
+    let mut end = [0; 6];
+    let listed = walk(
+        words,
+        0,
+        held(n),
+        true,
+        number,
+        center,
+        size,
+        in_focus,
+        frame,
+        &mut end,
+    );
+    carried_of(listed, number, in_focus, end)
 }

@@ -37,29 +37,26 @@ fn scaled_points(points: [FocusPoint; 39], n: usize, old: Size, new: Size) -> [F
     scaled
 }
 
-// A row of no points.
-fn empty_row() -> PointPlaces
-    ensures { λ r. ⌜ r ≡ pointPlaces [] ⌝ }
-{
-    let points = placing::load::no_places();
-    PointPlaces { points, count: 0 }
-}
-
 impl Sheet {
-    // The listed points among the first `from`, and those up to `to`.
-    fn listed_to(self, row: PointPlaces, from: usize, to: usize) -> PointPlaces
-        requires { ⌜ (from ≤ to) × (to ≤ 39) × (self .standing ≤ 64) × (row ≡ pointPlaces (listedTo self from)) ⌝ }
-        ensures { λ r. ⌜ r ≡ pointPlaces (listedTo self to) ⌝ }
+    // The points where the standing edits carry them, the primary's index among them, and the present frame, which is the one that the
+    // primary comes to lie in.
+    fn present(self) -> Present
+        requires { ⌜ (self .count ≤ 39) × (self .primary < self .count) × (self .standing ≤ 64) ⌝ }
+        ensures { λ r. ⌜ r ≡ presentOf self ⌝ }
     {
-        let mut points = row.points;
-        let mut count = row.count;
-        let frame = self.frame;
         let words = self.edits;
-        let standing = self.standing;
-        let mut i = from;
-        while i < to {
+        let mut frame = self.frame;
+        let mut points = placing::load::no_places();
+        let mut count: usize = 0;
+        let mut index: usize = 0;
+        let mut i: usize = 0;
+        while i < self.count {
             let p = self.points[i];
-            let place = crate::edits::place_after(frame, p, &words, standing);
+            let place = crate::edits::place_after(self.frame, p, &words, self.standing);
+            if i == self.primary {
+                frame = place.frame;
+                index = count;
+            }
             if place.listed {
                 let q = place.point;
                 points[count] = q;
@@ -67,26 +64,11 @@ impl Sheet {
             }
             i += 1;
         }
-        PointPlaces { points, count }
-    }
-
-    // The points where the standing edits carry them, the primary's index and the present frame.
-    fn present(self) -> Present
-        requires { ⌜ (self .count ≤ 39) × (self .primary < self .count) × (self .standing ≤ 64) ⌝ }
-        ensures { λ r. ⌜ r ≡ presentOf self ⌝ }
-    {
-        let primary = self.primary;
-        let count = self.count;
-        let before = self.listed_to(empty_row(), 0, primary);
-        let all = self.listed_to(before, primary, count);
-        let place = self.place_at(primary);
-        let frame = place.frame;
-        let points = all.points;
         Present {
             frame,
             points,
-            count: all.count,
-            index: before.count,
+            count,
+            index,
         }
     }
 

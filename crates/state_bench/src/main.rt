@@ -1,11 +1,13 @@
 // Makes one call, or a pair of calls, many times over on one state, to be timed: every state is handed on by value. The first 512
 // bytes of standard input are a load as workspace_test reads it (its sizes are not looked at), every 512 after them a job: its kind
-// in a byte, how many times in 32 bits, big-endian, and zeros. Each job starts from the load, with one turn (orientation 6) standing,
-// and on a workspace with eight names kept, of 16 bytes each, that differ in the last. Kinds: 1 a turn and a back on a sheet, 2 on a
-// workspace. 3 a keep and a return on a workspace, under the name at the last of the eight places; 4 the keep alone. 5 a list on a
-// sheet, 6 on a workspace, into 240 places. 7 an orientation of number 0, which is refused and changes nothing, on a sheet, 8 on a
-// workspace: what is left is handing the state on. Prints for each job the kind, how many times, the last answer (`ok`, `no N`, or
-// `none` without a call), and how many edits stand at the end. No contract can say what is printed: that is held to `stdout`.
+// in a byte, how many times in 32 bits, how many edits in a byte, an edit as workspace_test reads it (9 and the orientation's number
+// in a byte, or 2 and the cut's four 32-bit numbers), and zeros; numbers are big-endian. Each job starts from the load, with so many
+// of that edit standing, and on a workspace with eight names kept, of 16 bytes each, that differ in the last. Kinds: 1 a turn
+// (orientation 6) and a back on a sheet, 2 on a workspace. 3 a keep and a return on a workspace, under the name at the last of the
+// eight places; 4 the keep alone. 5 a list on a sheet, 6 on a workspace, into 240 places. 7 an orientation of number 0, which is
+// refused and changes nothing, on a sheet, 8 on a workspace: what is left is handing the state on. Prints for each job the kind, how
+// many times, the last answer (`ok`, `no N`, or `none` without a call), and how many edits stand at the end. No contract can say what
+// is printed: that is held to `stdout`.
 use libc::STDIN_FILENO;
 use libc::STDOUT_FILENO;
 use numbers::io::ByteOrder;
@@ -58,13 +60,38 @@ fn block_in<'a>(call: &'a [u8]) -> &'a [u8] {
     )
 }
 
-// The load on a sheet, with a turn behind it.
-fn sheet_of(call: &[u8]) -> Sheet {
+// The 32-bit number at a place.
+fn number_at(s: &[u8], at: usize) -> u32 {
+    numbers::io::u32_of(numbers::io::tail(s, at), ByteOrder::Big)
+}
+
+// The sheet with the job's edit once more.
+fn edited(sheet: Sheet, job: &[u8]) -> Sheet {
+    let edit = numbers::io::tail(job, 7);
+    let r = if numbers::io::u8_at(job, 6) == 9 {
+        sheet.orient(numbers::io::u8_at(edit, 0) as u32)
+    } else {
+        sheet.cut(
+            number_at(edit, 0),
+            number_at(edit, 4),
+            number_at(edit, 8),
+            number_at(edit, 12),
+        )
+    };
+    let s = r.sheet;
+    s
+}
+
+// The load on a sheet, behind the job's edits.
+fn sheet_of(load: &[u8], job: &[u8]) -> Sheet {
     let missing = OptionalSize::Missing;
-    let loaded = Sheet::new().load(block_in(call), missing, missing, model_in(call));
-    let sheet = loaded.sheet;
-    let turned = sheet.orient(TURN);
-    let s = turned.sheet;
+    let loaded = Sheet::new().load(block_in(load), missing, missing, model_in(load));
+    let mut s = loaded.sheet;
+    let mut left = numbers::io::u8_at(job, 5);
+    while left > 0 {
+        s = edited(s, job);
+        left -= 1;
+    }
     s
 }
 
@@ -75,13 +102,10 @@ fn name_at(place: u8) -> [u8; 16] {
     name
 }
 
-// The load on a workspace, with a turn behind it, kept under eight names.
-fn workspace_of(call: &[u8]) -> Workspace {
-    let missing = OptionalSize::Missing;
-    let loaded = Workspace::new().load(block_in(call), missing, missing, model_in(call));
-    let workspace = loaded.workspace;
-    let turned = workspace.orient(TURN);
-    let mut w = turned.workspace;
+// The same sheet on a workspace, kept under eight names.
+fn workspace_of(load: &[u8], job: &[u8]) -> Workspace {
+    let mut w = Workspace::new();
+    w.sheet = sheet_of(load, job);
     let mut place: u8 = 0;
     while place < 8 {
         let name = name_at(place);
@@ -208,31 +232,31 @@ fn refusals_on_workspace(workspace: Workspace, count: u32) {
 }
 
 // The lists of kinds 5 and 6, in a buffer of their own.
-fn lists(load: &[u8], kind: u8, count: u32) {
+fn lists(load: &[u8], job: &[u8], kind: u8, count: u32) {
     let mut out = [0u32; 240];
     if kind == 5 {
-        lists_on_sheet(sheet_of(load), &mut out, count);
+        lists_on_sheet(sheet_of(load, job), &mut out, count);
     } else {
-        lists_on_workspace(workspace_of(load), &mut out, count);
+        lists_on_workspace(workspace_of(load, job), &mut out, count);
     }
 }
 
 // Does one job.
 fn run(load: &[u8], job: &[u8]) {
     let kind = numbers::io::u8_at(job, 0);
-    let count = numbers::io::u32_of(numbers::io::tail(job, 1), ByteOrder::Big);
+    let count = number_at(job, 1);
     let name = name_at(7);
     number(b"kind ", kind as u64);
     number(b", times ", count as u64);
     match kind {
-        1 => turns_on_sheet(sheet_of(load), count),
-        2 => turns_on_workspace(workspace_of(load), count),
-        3 => keeps_and_returns(workspace_of(load), &name, count),
-        4 => keeps(workspace_of(load), &name, count),
-        5 => lists(load, kind, count),
-        6 => lists(load, kind, count),
-        7 => refusals_on_sheet(sheet_of(load), count),
-        8 => refusals_on_workspace(workspace_of(load), count),
+        1 => turns_on_sheet(sheet_of(load, job), count),
+        2 => turns_on_workspace(workspace_of(load, job), count),
+        3 => keeps_and_returns(workspace_of(load, job), &name, count),
+        4 => keeps(workspace_of(load, job), &name, count),
+        5 => lists(load, job, kind, count),
+        6 => lists(load, job, kind, count),
+        7 => refusals_on_sheet(sheet_of(load, job), count),
+        8 => refusals_on_workspace(workspace_of(load, job), count),
         _ => text(b": no such kind\n"),
     }
 }

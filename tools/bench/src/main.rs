@@ -5,7 +5,7 @@
 
 mod blocks;
 mod contents;
-mod orientations;
+mod edits;
 mod states;
 
 use std::env;
@@ -17,6 +17,7 @@ use std::process::{Command, Stdio};
 use std::time::{Duration, Instant};
 
 use blocks::{Load, call_line, grown, stored, with_all_points};
+use edits::Edit;
 use oracle::{Answer, FocusOrigin};
 
 const ROUNDS: usize = 7;
@@ -110,39 +111,71 @@ fn program_text(program: &Path, input: &[u8]) -> String {
     String::from_utf8(child.wait_with_output().unwrap().stdout).unwrap()
 }
 
-/// Microseconds for a listing by focusdesk behind orientations of these numbers.
-fn listing_time(program: &Path, numbers: &[u8]) -> f64 {
+const LIST: &[u8] = b"06FA\n";
+
+/// A load of all 39 points, and these edits.
+fn script_of(edits: &[Edit]) -> Vec<u8> {
+    let lines = edits.iter().flat_map(|edit| call_line(&edit.call()));
+    with_all_points().into_iter().chain(lines).collect()
+}
+
+/// What the library lists behind these edits.
+fn listed_behind(edits: &[Edit]) -> (edits::Head, Vec<u32>) {
+    edits::listed(&focuspoints::script(&[&script_of(edits), LIST].concat()))
+}
+
+/// Microseconds for a list line by focusdesk behind these edits.
+fn line_time(program: &Path, edits: &[Edit]) -> f64 {
     const LISTS: usize = 20_000;
-    let script = oriented_script(numbers);
+    let script = script_of(edits);
     let without = program_time(program, &script);
     let lists = [script, LIST.repeat(LISTS)].concat();
     (program_time(program, &lists) - without).as_secs_f64() * 1e6 / LISTS as f64
 }
 
-const LIST: &[u8] = b"06FA\n";
-
-/// A load of all 39 points, and an orientation of each number.
-fn oriented_script(numbers: &[u8]) -> Vec<u8> {
-    let lines = numbers.iter().flat_map(|&number| call_line(&[9, number]));
-    with_all_points().into_iter().chain(lines).collect()
+/// Microseconds for a list behind these edits by the plain loop, which must list what the library does before its time means anything.
+fn plain_list_time(sheet: states::Sheet, edits: &[Edit]) -> f64 {
+    let plain = |edits: &[Edit], out: &mut [u32]| edits::list(sheet.frame, &sheet.points, sheet.primary, edits.iter().copied(), out);
+    let mut out = [0; 240];
+    let head = plain(edits, &mut out).unwrap();
+    assert_eq!((head, out[..6 * head.count].to_vec()), listed_behind(edits));
+    nanoseconds_each(&[edits], |edits| {
+        black_box(plain(black_box(edits), black_box(&mut out)).unwrap());
+    }) / 1e3
 }
 
-/// The points that the library lists behind orientations of these numbers.
-fn listed_behind(numbers: &[u8]) -> Vec<orientations::Carried> {
-    orientations::listed(&focuspoints::script(&[&oriented_script(numbers), LIST].concat()))
-}
-
-/// A listing behind orientations, and what it takes more than `none`, one behind no edit. Both sides must carry the points to the same
-/// places before their times mean anything.
-fn listing_row(program: &Path, none: f64, name: &str, numbers: &[u8]) -> f64 {
-    let points = listed_behind(&[]);
-    assert_eq!(orientations::plain(&points, numbers), listed_behind(numbers), "{name}");
-    let plain = nanoseconds_each(&[points], |points| {
-        black_box(orientations::plain(black_box(points), black_box(numbers)));
-    }) / 1e3;
-    let listing = listing_time(program, numbers);
-    println!("| {name} | {listing:.1} | {:.1} | {plain:.1} | {:.1} |", listing - none, (listing - none) / plain);
-    listing
+/// Lists behind equal edits: by the plain loop, by state_bench on a sheet, and by a line of focusdesk.
+fn lists_table(root: &Path, load: &[u8], sheet: states::Sheet) {
+    let [focusdesk, state_bench] = ["focusdesk", "state_bench"].map(|name| root.join("target/bin").join(name));
+    let [width, height] = sheet.frame;
+    let kinds = [
+        ("orientation 6", Edit::Orient(6)),
+        ("orientation 2", Edit::Orient(2)),
+        ("a cut of the whole frame", Edit::Cut { left: 0, top: 0, width, height }),
+    ];
+    println!("| edits that stand | a plain loop in Rust, µs | a list on a sheet, µs | times as long | a list line by focusdesk, µs |");
+    println!("|---|---|---|---|---|");
+    let row = |name: &str, standing: u8, edit: Edit| {
+        let edits = vec![edit; standing as usize];
+        let plain = plain_list_time(sheet, &edits);
+        let own = nanoseconds_of(|count| program_time(&state_bench, &states::job(load, 5, count, standing, edit))) / 1e3;
+        println!("| {name} | {plain:.2} | {own:.2} | {:.1} | {:.1} |", own / plain, line_time(&focusdesk, &edits));
+        own
+    };
+    row("none", 0, kinds[0].1);
+    let ratios: Vec<String> = kinds
+        .iter()
+        .map(|&(name, edit)| {
+            let half = row(&format!("32 times {name}"), 32, edit);
+            let full = row(&format!("64 times {name}"), 64, edit);
+            format!("{:.2} ({name})", full / half)
+        })
+        .collect();
+    println!();
+    println!("Behind 64 equal edits a list on a sheet takes so many times as long as behind 32: {}.", ratios.join(", "));
+    let eight: Vec<Edit> = (1..=8).map(Edit::Orient).collect::<Vec<_>>().repeat(8);
+    let [none, line] = [&[], &eight[..]].map(|edits| line_time(&focusdesk, edits));
+    println!("Behind 64 of the eight orientations, one after the other, a list line by focusdesk takes {line:.1} µs, {:.1} more than behind none; the plain loop {:.1}.", line - none, plain_list_time(sheet, &eight));
 }
 
 /// Nanoseconds for each of so many calls that they take some tenths of a second, by the time that a number of them takes.
@@ -154,11 +187,16 @@ fn nanoseconds_of(time: impl Fn(u32) -> Duration) -> f64 {
     time(count).saturating_sub(without).as_secs_f64() * 1e9 / count as f64
 }
 
+/// A job of state_bench behind one turn.
+fn job(load: &[u8], kind: u8, count: u32) -> Vec<u8> {
+    states::job(load, kind, count, 1, Edit::Orient(states::TURN as u8))
+}
+
 /// Nanoseconds for one call of a kind by the plain states, which must end as the program does before their time means anything.
 fn plain_time<C: states::Calling>(program: &Path, load: &[u8], sheet: states::Sheet, (kind, name): (u8, &str)) -> f64 {
     let plain = |count| states::plain::<C>(sheet, kind, count, &mut [0; focuspoints::LISTING]);
     for count in [1, 65] {
-        assert_eq!(plain(count), program_text(program, &states::job(load, kind, count)), "{name}");
+        assert_eq!(plain(count), program_text(program, &job(load, kind, count)), "{name}");
     }
     nanoseconds_of(|count| {
         shortest(|| {
@@ -171,18 +209,14 @@ fn plain_time<C: states::Calling>(program: &Path, load: &[u8], sheet: states::Sh
 fn state_row(program: &Path, load: &[u8], sheet: states::Sheet, kind: (u8, &str)) {
     let apart = plain_time::<states::Apart>(program, load, sheet, kind);
     let free = plain_time::<states::Free>(program, load, sheet, kind);
-    let own = nanoseconds_of(|count| program_time(program, &states::job(load, kind.0, count)));
+    let own = nanoseconds_of(|count| program_time(program, &job(load, kind.0, count)));
     println!("| {} | {apart:.0} | {free:.0} | {own:.0} | {:.1} | {:.1} |", kind.1, own / apart, own / free);
 }
 
 /// Calls on a sheet and on a workspace, each kind that state_bench has.
-fn states_table(root: &Path) {
+fn states_table(root: &Path, load: &[u8], sheet: states::Sheet) {
     let program = root.join("target/bin/state_bench");
-    let load = &fs::read(root.join("crates/state_bench/stdin")).unwrap()[..512];
-    let mut listing = [0; focuspoints::LISTING];
-    assert!(ours(&stored(&load[1..])[0], &mut listing));
-    let sheet = states::Sheet::of(&listing);
-    assert_eq!(states::listed_turned(sheet), listed_behind(&[6]));
+    assert_eq!(states::listed_turned(sheet), listed_behind(&[Edit::Orient(states::TURN as u8)]));
     let [small, large] = states::sizes();
     println!("| call, the state handed on by value | plain Rust, calls apart, ns | plain Rust, calls as the compiler likes, ns | here, ns | times the first | times the second |");
     println!("|---|---|---|---|---|---|");
@@ -230,17 +264,13 @@ fn main() {
     contents_row("the same with the entries the other way round", &reversed);
     contents_row("65,535 entries with none of the four tags", &[contents::longest()]);
     println!();
-    println!("| edits that stand | a listing of 39 points by focusdesk, µs | more than behind none, µs | a plain loop in Rust, µs | times as long |");
-    println!("|---|---|---|---|---|");
-    let none = listing_time(&program, &[]);
-    println!("| none | {none:.1} | | | |");
-    let half = listing_row(&program, none, "32 turns, orientation 6", &[6; 32]);
-    let full = listing_row(&program, none, "64 turns, orientation 6", &[6; 64]);
-    listing_row(&program, none, "64 of the eight orientations, one after the other", &[1, 2, 3, 4, 5, 6, 7, 8].repeat(8));
+    let load = &fs::read(root.join("crates/state_bench/stdin")).unwrap()[..512];
+    let mut listing = [0; focuspoints::LISTING];
+    assert!(ours(&stored(&load[1..])[0], &mut listing));
+    let sheet = states::Sheet::of(&listing);
+    lists_table(root, load, sheet);
     println!();
-    println!("Behind 64 turns a listing takes {:.2} times as long as behind 32.", full / half);
-    println!();
-    states_table(root);
+    states_table(root, load, sheet);
     println!();
     let lines = fs::read(root.join("tools/oracle/stored/lines.txt")).unwrap().repeat(20);
     let count = lines.iter().filter(|&&c| c == b'\n').count();

@@ -3,7 +3,7 @@
 
 use std::hint::black_box;
 
-use crate::orientations::{Carried, oriented};
+use crate::edits::{self, Edit, Head};
 
 /// What state_bench does once for each of its kinds, and how it is told. A state that comes later has its kinds here and in `plain`.
 pub const KINDS: [(u8, &str); 8] = [
@@ -17,16 +17,17 @@ pub const KINDS: [(u8, &str); 8] = [
     (6, "a list of 39 points behind a turn, on a workspace"),
 ];
 
-const TURN: u32 = 6;
+/// The orientation that is a turn.
+pub const TURN: u32 = 6;
 
 /// The points of a load, and the edits that stand, five words each.
 #[derive(Clone, Copy)]
 pub struct Sheet {
     loaded: bool,
-    frame: [u32; 2],
-    points: [[u32; 6]; 39],
+    pub frame: [u32; 2],
+    pub points: [[u32; 6]; 39],
     count: usize,
-    primary: usize,
+    pub primary: usize,
     mode: u32,
     origin: u32,
     edits: [u32; 320],
@@ -83,22 +84,14 @@ impl Sheet {
         (0, self)
     }
 
-    /// The listing's head in six numbers, and the points in the buffer. Only orientations stand here.
-    fn list(self, out: &mut [u32]) -> Result<[u32; 6], u32> {
+    /// The listing's head with mode and origin, and the points in the buffer.
+    fn list(self, out: &mut [u32]) -> Result<(Head, [u32; 2]), u32> {
         if !self.is_usable() {
             return Err(7);
         }
-        if out.len() < 6 * self.count {
-            return Err(13);
-        }
-        let mut frame = self.frame;
-        for (&[number, x, y, width, height, focus], place) in self.points[..self.count].iter().zip(out.chunks_exact_mut(6)) {
-            let from = Carried { frame: self.frame, center: [x, y], area: [width, height] };
-            let to = self.edits.chunks_exact(5).take(self.standing).fold(from, |from, edit| oriented(from, edit[0] as u8));
-            frame = to.frame;
-            place.copy_from_slice(&[number, to.center[0], to.center[1], to.area[0], to.area[1], focus]);
-        }
-        Ok([frame[0], frame[1], self.count as u32, self.primary as u32, self.mode, self.origin])
+        let edits = self.edits.chunks_exact(5).take(self.standing).map(Edit::of);
+        let head = edits::list(self.frame, &self.points[..self.count], self.primary, edits, out)?;
+        Ok((head, [self.mode, self.origin]))
     }
 }
 
@@ -139,7 +132,7 @@ impl Workspace {
         (answer, self)
     }
 
-    fn list(self, out: &mut [u32]) -> Result<[u32; 6], u32> {
+    fn list(self, out: &mut [u32]) -> Result<(Head, [u32; 2]), u32> {
         self.sheet.list(out)
     }
 
@@ -221,7 +214,7 @@ fn over<State>(mut state: State, count: u32, mut once: impl FnMut(State) -> (u32
     (last, state)
 }
 
-fn list_number(answer: Result<[u32; 6], u32>) -> u32 {
+fn list_number(answer: Result<(Head, [u32; 2]), u32>) -> u32 {
     black_box(answer).err().unwrap_or(0)
 }
 
@@ -263,12 +256,11 @@ pub fn plain<C: Calling>(sheet: Sheet, kind: u8, count: u32, out: &mut [u32]) ->
     format!("kind {kind}, times {count}: {answer}, standing {standing}\n")
 }
 
-/// Where a turn carries the sheet's points, by its list.
-pub fn listed_turned(sheet: Sheet) -> Vec<Carried> {
+/// What the sheet lists behind a turn.
+pub fn listed_turned(sheet: Sheet) -> (Head, Vec<u32>) {
     let mut out = vec![0; 6 * sheet.count];
-    let head = sheet.orient(TURN).1.list(&mut out).unwrap();
-    let frame = [head[0], head[1]];
-    out.chunks_exact(6).map(|point| Carried { frame, center: [point[1], point[2]], area: [point[3], point[4]] }).collect()
+    let (head, _) = sheet.orient(TURN).1.list(&mut out).unwrap();
+    (head, out)
 }
 
 /// The sizes of the two states, in bytes.
@@ -276,11 +268,13 @@ pub fn sizes() -> [usize; 2] {
     [size_of::<Sheet>(), size_of::<Workspace>()]
 }
 
-/// A job for state_bench behind its load.
-pub fn job(load: &[u8], kind: u8, count: u32) -> Vec<u8> {
+/// A job for state_bench behind its load: its kind, how many times, and how many of an edit stand before.
+pub fn job(load: &[u8], kind: u8, count: u32, standing: u8, edit: Edit) -> Vec<u8> {
     let mut input = load.to_vec();
     input.push(kind);
     input.extend(count.to_be_bytes());
+    input.push(standing);
+    input.extend(edit.call());
     input.resize(2 * load.len(), 0);
     input
 }

@@ -6,25 +6,16 @@ use Rattle.state_bench.proofs.workspace_of.Statement.{statement}
 use Rattle.state_bench.proofs.workspace_of.Tie as tie
 
 abbrev Inv-loop : tie.InvT-loop
-Inv-loop call w₀ place₀ w place = place ≤ 8
+Inv-loop load job w₀ place₀ w place = place ≤ 8
 
 abbrev μ-loop : tie.MeasureT-loop
-μ-loop call w₀ place₀ w place = 8 - place
+μ-loop load job w₀ place₀ w place = 8 - place
 
 new-requires : tie.Need-new-requires Inv-loop μ-loop
 new-requires c κs = search needs
 
-block-in-requires : tie.Need-block-in-requires Inv-loop μ-loop
-block-in-requires c κs = search needs
-
-model-in-requires : tie.Need-model-in-requires Inv-loop μ-loop
-model-in-requires c κs = search needs
-
-load-requires : tie.Need-load-requires Inv-loop μ-loop
-load-requires c κs = search needs
-
-orient-requires : tie.Need-orient-requires Inv-loop μ-loop
-orient-requires c κs = search needs
+sheet-of-requires : tie.Need-sheet-of-requires Inv-loop μ-loop
+sheet-of-requires c κs = search needs
 
 loop-holds : tie.Need-loop-holds Inv-loop μ-loop
 loop-holds c = omega arith
@@ -57,10 +48,7 @@ workspace-of-spec =
     Inv-loop
     μ-loop
     new-requires
-    block-in-requires
-    model-in-requires
-    load-requires
-    orient-requires
+    sheet-of-requires
     loop-holds
     name-at-requires
     slice-aggregate-keep

@@ -1,48 +1,99 @@
--- `Sheet::present`: two rows of listed points and the primary's place, by what the callees ensure. Assumes nothing.
-use mathlib.Core.Path.{_≡_}
+-- `Sheet::present`: the loop's invariant is that the places hold the listed points among the first i, and that the frame and the index
+-- are the primary's once it has been seen. Assumes nothing.
+use mathlib.Core.Path.{refl, _∙_}
+use mathlib.Core.Logic.{⊎-elim}
+use Prim.Native.Nat.{_-_, _≤_}
 use native.Mathlib.Omega.{arith}
-use Rattle.sheet.specs.declared.edits.Carried.{Carried}
-use Rattle.sheet.specs.declared.Sheet.{Sheet}
-use Rattle.placing.specs.declared.load.PointPlaces.{PointPlaces}
-use Rattle.sheet.specs.declared.list.Present.{Present}
-use Rattle.sheet.specs.Sheet.{placedAt, presentFrame}
-use Rattle.placing.specs.Inside.{pointPlaces}
-use Rattle.sheet.specs.Lists.{listedTo, listing, listCount, listIndex}
-use Rattle.sheet.specs.Inside.{presentOf}
+use Rattle.placing.specs.Laid.{places}
+use Rattle.sheet.specs.Sheet.{placedAt}
+use Rattle.sheet.specs.Lists.{listedTo}
+use Rattle.sheet.proofs.Most.{all-held}
+use Rattle.sheet.proofs.Listed.{Row, has-room, one-in, none-in, Seen, seen-now, seen-before, all-seen}
 use borrow.Author.Needs.{needs}
 use Rattle.sheet.proofs.Sheet.present.Statement.{statement}
 use Rattle.sheet.proofs.Sheet.present.Tie as tie
 
-is-present : (s : Sheet) (b a : PointPlaces) (q : Carried) → b ≡ pointPlaces (listedTo s (s .primary)) → a ≡ pointPlaces (listedTo s (s .count))
-    → q ≡ placedAt s (s .primary)
-    → _≡_ {A = Present} (record { frame = q .frame; points = a .points; count = a .count; index = b .count }) (presentOf s)
-unfolding presentOf presentFrame listing listCount listIndex
-is-present s b a q eb ea eq = rw (eb, ea, eq)
+abbrev Inv-loop : tie.InvT-loop
+Inv-loop self words frame₀ points₀ count₀ index₀ i₀ frame points count index i = (i ≤ self .count) × Row self i count points × Seen self i frame index
 
-empty-row-requires : tie.Need-empty-row-requires
-empty-row-requires c κs = search needs
+abbrev μ-loop : tie.MeasureT-loop
+μ-loop self words frame₀ points₀ count₀ index₀ i₀ frame points count index i = self .count - i
 
-listed-to-requires : tie.Need-listed-to-requires
-unfolding listedTo
-listed-to-requires c κs = (omega arith, omega (arith, c .before .pre), c .before .pre .2, c .empty-row .ensures)
+no-places-requires : tie.Need-no-places-requires Inv-loop μ-loop
+no-places-requires c κs = search needs
 
-listed-to-requires-2 : tie.Need-listed-to-requires-2
-listed-to-requires-2 c κs = (
-  omega (arith, c .before .before .pre),
-  c .before .before .pre .0,
-  c .before .before .pre .2,
-  c .listed-to .ensures,
-)
+loop-holds : tie.Need-loop-holds Inv-loop μ-loop
+unfolding listedTo places
+loop-holds c = (omega arith, (refl, c .no-places .ensures), λ h. absurd (omega arith))
 
-place-at-requires : tie.Need-place-at-requires
-place-at-requires c κs = omega (arith, c .before .before .before .pre)
+mul-p : tie.Need-mul-p Inv-loop μ-loop
+mul-p c = omega (arith, c .before .before .before .before .before .pre)
 
-returns : tie.Need-returns
+element-copy-out-p : tie.Need-element-copy-out-p Inv-loop μ-loop
+element-copy-out-p c = omega (arith, c .before .before .before .before .before .pre)
+
+place-after-requires : tie.Need-place-after-requires Inv-loop μ-loop
+place-after-requires c κs = search needs
+
+mul-points : tie.Need-mul-points Inv-loop μ-loop
+mul-points c =
+    let b = has-room _ _ _ _ (omega (arith, c .before .before .before .before .before .before .before .before .before .before .before .before .pre)) (c .before .before .before .before .before .before .before .before .loop .inv .1) in
+    omega (arith, c .before .before .before .before .before .before .before .before .before .before .before .before .pre)
+
+array-set-from-points : tie.Need-array-set-from-points Inv-loop μ-loop
+array-set-from-points c =
+    let b = has-room _ _ _ _ (omega (arith, c .before .before .before .before .before .before .before .before .before .before .before .before .pre)) (c .before .before .before .before .before .before .before .before .loop .inv .1) in
+    omega (arith, c .before .before .before .before .before .before .before .before .before .before .before .before .pre)
+
+add-count : tie.Need-add-count Inv-loop μ-loop
+add-count c =
+    let b = has-room _ _ _ _ (omega (arith, c .before .before .before .before .before .before .before .before .before .before .before .before .pre)) (c .before .before .before .before .before .before .before .before .loop .inv .1) in
+    omega (arith, c .before .before .before .before .before .before .before .before .before .before .before .before .pre)
+
+add-i : tie.Need-add-i Inv-loop μ-loop
+add-i c = omega (arith, c .before .before .before .before .before .before .before .before .before .before .before .pre)
+
+loop-less : tie.Need-loop-less Inv-loop μ-loop
+loop-less c = omega arith
+
+loop-again : tie.Need-loop-again Inv-loop μ-loop
+unfolding placedAt
+loop-again c =
+    let u = c .before .before .before .before .before .before .before .loop .inv in
+    let h = c .before .before .before .before .before .before .before .before .before .before .before .pre in
+    let e = c .before .before .place-after .ensures ∙ all-held _ _ _ _ (h .2) in
+    (
+      omega arith,
+      ⊎-elim
+      (λ w. one-in _ _ _ _ (omega (arith, h)) (u .1) _ e _ _ (w .0 .taken) (w .3) (w .2))
+      (λ w. none-in _ _ _ _ (omega (arith, h)) (u .1) _ e _ _ (w .0 .left) (w .2) (w .1))
+      (c .if2 .came),
+      ⊎-elim
+      (λ w. seen-now _ _ _ _ _ e _ (u .1 .0) (w .0 .taken) (w .2) (w .3))
+      (λ w. seen-before _ _ _ _ (w .0 .left) _ _ (u .2) (w .1) (w .2))
+      (c .before .if1 .came),
+    )
+
+returns : tie.Need-returns Inv-loop μ-loop
 returns c =
-    is-present _ _ _ _ (c .before .before .before .before .listed-to .ensures)
-    (c .before .before .before .listed-to2 .ensures) (c .before .before .place-at .ensures)
+    all-seen _ _ _ _ _ _ (c .before .loop .inv .0) (c .loop-test .left) (c .before .before .before .before .before .pre .1) (c .before .loop .inv .1)
+    (c .before .loop .inv .2)
 
 pub present-spec : {M : Type 1} → statement M
 present-spec =
     tie.close
-    (tie.spec empty-row-requires listed-to-requires listed-to-requires-2 place-at-requires returns)
+    (tie.spec
+    Inv-loop
+    μ-loop
+    no-places-requires
+    loop-holds
+    mul-p
+    element-copy-out-p
+    place-after-requires
+    mul-points
+    array-set-from-points
+    add-count
+    add-i
+    loop-less
+    loop-again
+    returns)

@@ -1,0 +1,74 @@
+-- Edits taken from the first to the last come to what placed says, and what `walk` and `place_after` ensure. Assumes nothing.
+use Prim.Native.Nat.{ℕ, zero, suc, _+_, _-_, min}
+use mathlib.Core.Bool.{Bool}
+use mathlib.Core.List.{List, [], _∷_}
+use mathlib.Core.Path.{_≡_, refl, ap, ap₂, _∙_}
+use native.Mathlib.Nat.{add-zero, zero-add}
+use native.Mathlib.Numerals.{add-one, sub-one}
+use native.Mathlib.Omega.{arith}
+use Rattle.reading.specs.declared.focus.InFocus.{InFocus}
+use Rattle.reading.specs.declared.geometry.Point.{Point}
+use Rattle.reading.specs.declared.geometry.Size.{Size}
+use Rattle.placing.specs.declared.focus.FocusPoint.{FocusPoint}
+use Rattle.sheet.specs.declared.edits.Edit.{Edit}
+use Rattle.sheet.specs.declared.edits.Edit.the-variants.{Orient, Cut}
+use Rattle.sheet.specs.declared.edits.Carried.{Carried}
+use Rattle.sheet.specs.declared.orientation.Framed.{Framed}
+use Rattle.sheet.specs.Orientation.{framed, mirrored, Steps, turns, mirrorThen, stepsOf, turnedBy, taken, orientedBy}
+use Rattle.sheet.specs.Place.{cutPoint, moved, editAt, walked, placed}
+use Rattle.sheet.specs.Inside.{carried, carriedOf}
+
+-- from the place after i edits, n edits on is the place after i + n
+walked-on : (f : Size) (p : FocusPoint) (ws : List ℕ) (i n : ℕ) → walked ws i n (placed f p ws i) ≡ placed f p ws (i + n)
+unfolding walked placed
+walked-on f p ws i zero = rw (add-zero i)
+walked-on f p ws i (suc n) =
+    let e : suc i + n ≡ i + suc n = omega arith in
+    rw (← e) (walked-on f p ws (suc i) n)
+
+-- an orientation leaves a point's number, and whether it was in focus
+abbrev Alike : FocusPoint → FocusPoint → Type 0
+Alike p q = (p .number ≡ q .number) × (p .«in_focus» ≡ q .«in_focus»)
+
+turns-keep : (n : ℕ) (q : Framed) → Alike (q .point) (turnedBy n q .point)
+unfolding turnedBy
+turns-keep zero q = (refl, refl)
+turns-keep (suc n) q = turns-keep n q
+
+steps-keep : (s : Steps) (q : Framed) → Alike (q .point) (taken s q .point)
+steps-keep (turns n) q = turns-keep n q
+steps-keep (mirrorThen n) q = turns-keep n (mirrored q)
+
+-- any edit does
+moved-keeps : (e : Edit) (q : Carried)
+    → carried (moved e q .listed) (q .point .number) (moved e q .point .center) (moved e q .point .size) (q .point .«in_focus») (moved e q .frame)
+    ≡ moved e q
+unfolding moved cutPoint orientedBy
+moved-keeps (Orient o) q =
+    let r = orientedBy o (framed (q .frame) (q .point)) in
+    let k = steps-keep (stepsOf o) (framed (q .frame) (q .point)) in
+    ap₂ (λ (n : ℕ) (g : InFocus). carried (q .listed) n (r .point .center) (r .point .size) g (r .frame)) (k .0) (k .1)
+moved-keeps (Cut l t w h) q = refl
+
+-- `walk`, where no edit is left and where one is
+module _ (ws : List ℕ) (i : ℕ) (b : Bool) (k : ℕ) (c : Point) (a : Size) (g : InFocus) (f : Size) where
+  pub walk-ends : (n : ℕ) → n ≡ 0
+      → carriedOf b k g (c .x ∷ c .y ∷ a .width ∷ a .height ∷ f .width ∷ f .height ∷ []) ≡ walked ws i n (carried b k c a g f)
+  unfolding walked
+  walk-ends n e = rw e
+
+  pub walk-goes-on : (n : ℕ) → (n ≡ 0 → ⊥) → (e : Edit) → e ≡ editAt ws i → (q : Carried) → q ≡ moved e (carried b k c a g f)
+      → (r : Carried) → r ≡ walked ws (i + 1) (n - 1) (carried (q .listed) k (q .point .center) (q .point .size) g (q .frame))
+      → r ≡ walked ws i n (carried b k c a g f)
+  unfolding walked
+  walk-goes-on zero z e d q m r h = absurd (z refl)
+  walk-goes-on (suc n) z e d q m r h =
+      let s : carried (q .listed) k (q .point .center) (q .point .size) g (q .frame) ≡ moved (editAt ws i) (carried b k c a g f) =
+      rw (m, d) (moved-keeps (editAt ws i) (carried b k c a g f)) in
+      h ∙ rw (s, add-one i, sub-one (suc n))
+
+-- `place_after`: a walk from the first edit on, through as many as the words hold
+pub walk-whole : (f : Size) (p : FocusPoint) (ws : List ℕ) (n m : ℕ) → m ≡ min n 64 → (q : Carried) → q ≡ walked ws 0 m (placed f p ws 0)
+    → (r : Carried) → r ≡ q
+    → r ≡ placed f p ws (min n 64)
+walk-whole f p ws n m e q h r d = d ∙ h ∙ walked-on f p ws 0 m ∙ ap (placed f p ws) (zero-add m ∙ e)
