@@ -1,9 +1,8 @@
 pub mod Buffer
 pub mod Listed
-pub mod Most
 pub mod OrientationNumbers
 pub mod Oriented
-pub mod Present
+pub mod Presented
 pub mod Product
 pub mod Usable
 pub mod Walked

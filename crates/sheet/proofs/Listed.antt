@@ -1,83 +1,99 @@
--- The listing, one point of the load at a time: its 39 places, and the primary's frame and index, as the loop of `present` finds them.
--- Assumes nothing.
+-- The listing, one point of the load at a time: its 39 places, and the primary's place and index, as the loop of `present` finds them.
+-- From index 0 on it is the listing of the definitions. Assumes nothing.
 use Prim.Native.Nat.{ℕ, zero, suc, _+_, _<_, _≤_}
 use mathlib.Core.Bool.{Bool, true, false, cond}
 use mathlib.Core.List.{List, [], _∷_, _++_, append-nil}
-use mathlib.Core.Path.{_≡_, ap, _∙_}
+use mathlib.Core.Path.{_≡_, refl, ap, _∙_}
+use lib.Dec.{leb}
 use lib.ListN.{length, set, length-append}
+use borrow.Author.Tests.{le-leb, lt-leb}
 use native.Mathlib.Omega.{arith}
 use native.Mathlib.Numerals.{add-one}
-use Rattle.reading.specs.declared.geometry.Size.{Size}
 use Rattle.placing.specs.declared.focus.FocusPoint.{FocusPoint}
 use Rattle.placing.specs.Laid.{places}
 use Rattle.sheet.specs.declared.edits.Carried.{Carried}
 use Rattle.sheet.specs.declared.Sheet.{Sheet}
-use Rattle.sheet.specs.declared.list.Present.{Present}
-use Rattle.sheet.specs.Sheet.{placedAt, presentFrame}
-use Rattle.sheet.specs.Lists.{ifCarried, listedTo, listing, listCount, listIndex}
-use Rattle.sheet.specs.Inside.{presentOf}
+use Rattle.sheet.specs.declared.Present.{Present}
+use Rattle.sheet.specs.Sheet.{placedAt}
+use Rattle.sheet.specs.Lists.{ifCarried, listedTo}
+use Rattle.sheet.specs.Inside.{listedBetween, presentOf}
 use Rattle.placing.proofs.Places.{set-places}
 
-one-at-most : (q : Carried) → length (ifCarried q) ≤ 1
-one-at-most q = by (q .listed)
+one-at-most : (b : Bool) (q : Carried) → length (cond b (ifCarried q) []) ≤ 1
+one-at-most b q = by b (q .listed)
   where
-    by : (b : Bool) → length (cond b (q .point ∷ []) []) ≤ 1
-    by true = omega arith
-    by false = omega arith
+    by : (b l : Bool) → length (cond b (cond l (q .point ∷ []) []) []) ≤ 1
+    by true true = omega arith
+    by true false = omega arith
+    by false l = omega arith
 
-pub listed-more : (s : Sheet) (i : ℕ) → listedTo s (i + 1) ≡ listedTo s i ++ ifCarried (placedAt s i)
-unfolding listedTo
-listed-more s i = rw add-one
+-- from index 0 on none is left out
+pub from-the-first : (s : Sheet) (i : ℕ) → listedBetween s 0 i ≡ listedTo s i
+unfolding listedBetween listedTo
+from-the-first s zero = refl
+from-the-first s (suc i) = rw (le-leb 0 i (omega arith), from-the-first s i)
 
--- no more are listed than there are
-pub listed-length : (s : Sheet) (i : ℕ) → length (listedTo s i) ≤ i
-unfolding listedTo
-listed-length s zero = omega arith
-listed-length s (suc i) =
-    rw length-append (omega (arith, listed-length s i, one-at-most (placedAt s i)))
+module _ (s : Sheet) (a : ℕ) where
+  -- no more are listed than there are
+  pub listed-length : (i : ℕ) → length (listedBetween s a i) ≤ i
+  unfolding listedBetween
+  listed-length zero = omega arith
+  listed-length (suc i) =
+      rw length-append (omega (arith, listed-length i, one-at-most (leb a i) (placedAt s i)))
 
--- a count and 39 places that hold the listed points among the first i
-abbrev pub Row : Sheet → ℕ → ℕ → List FocusPoint → Type 0
-Row s i n ps = (n ≡ length (listedTo s i)) × (ps ≡ places (listedTo s i))
+  -- before index a there is none
+  none-before : (i : ℕ) → i ≤ a → listedBetween s a i ≡ []
+  unfolding listedBetween
+  none-before zero h = refl
+  none-before (suc i) h = rw (none-before i (omega arith), lt-leb a i (omega arith))
 
-module _ (s : Sheet) (i n : ℕ) (ps : List FocusPoint) (hi : i < 39) (r : Row s i n ps) where
-  pub has-room : n ≤ i
-  has-room = omega (arith, r .0, listed-length s i)
+  listed-more : (i : ℕ) → a ≤ i → listedBetween s a (i + 1) ≡ listedBetween s a i ++ ifCarried (placedAt s i)
+  unfolding listedBetween
+  listed-more i h = rw (add-one i, le-leb a i h)
 
-  module _ (q : Carried) (e : q ≡ placedAt s i) (m : ℕ) (qs : List FocusPoint) where
-    pub one-in : q .listed ≡ true → m ≡ n + 1 → qs ≡ set ps n (q .point) → Row s (i + 1) m qs
-    one-in t em eq =
-        let b = has-room in
-        let g : listedTo s (i + 1) ≡ listedTo s i ++ q .point ∷ [] = listed-more s i ∙ rw (← e, t) in
-        rw g (em ∙ rw (length-append, r .0), eq ∙ rw (r .1, r .0) (set-places (listedTo s i) (q .point) (omega (arith, r .0))))
+  -- a count and 39 places that hold the listed points from index a up to i
+  abbrev pub Row : ℕ → ℕ → List FocusPoint → Type 0
+  Row i n ps = (n ≡ length (listedBetween s a i)) × (ps ≡ places (listedBetween s a i))
 
-    pub none-in : q .listed ≡ false → m ≡ n → qs ≡ ps → Row s (i + 1) m qs
-    none-in t em eq =
-        let g : listedTo s (i + 1) ≡ listedTo s i = listed-more s i ∙ rw (← e, t) (append-nil (listedTo s i)) in
-        rw g (em ∙ r .0, eq ∙ r .1)
+  pub empty-row : (ps : List FocusPoint) → ps ≡ places [] → Row a 0 ps
+  empty-row ps e = let z = none-before a (omega arith) in rw z (refl, e)
 
--- once the primary has been seen, its frame and its index are known
-abbrev pub Seen : Sheet → ℕ → Size → ℕ → Type 0
-Seen s i f k = s .primary < i → (f ≡ presentFrame s) × (k ≡ listIndex s)
+  module _ (i n : ℕ) (ps : List FocusPoint) (hi : i < 39) (r : Row i n ps) where
+    pub has-room : n ≤ i
+    has-room = omega (arith, r .0, listed-length i)
 
-module _ (s : Sheet) (i : ℕ) (f : Size) (k : ℕ) where
-  pub seen-now : (q : Carried) → q ≡ placedAt s i → (n : ℕ) → n ≡ length (listedTo s i) → i ≡ s .primary → f ≡ q .frame → k ≡ n
-      → Seen s (i + 1) f k
-  unfolding presentFrame listIndex
-  seen-now q e n en h ef ek g = (
-    ef ∙ ap (λ (q : Carried). q .frame) e ∙ ap (λ (j : ℕ). placedAt s j .frame) h,
-    ek ∙ en ∙ ap (λ (j : ℕ). length (listedTo s j)) h,
-  )
+    module _ (ha : a ≤ i) (q : Carried) (e : q ≡ placedAt s i) (m : ℕ) (qs : List FocusPoint) where
+      pub one-in : q .listed ≡ true → m ≡ n + 1 → qs ≡ set ps n (q .point) → Row (i + 1) m qs
+      one-in t em eq =
+          let b = has-room in
+          let g : listedBetween s a (i + 1) ≡ listedBetween s a i ++ q .point ∷ [] = listed-more i ha ∙ rw (← e, t) in
+          rw g (em ∙ rw (length-append, r .0), eq ∙ rw (r .1, r .0) (set-places (listedBetween s a i) (q .point) (omega (arith, r .0))))
 
-  pub seen-before : (i ≡ s .primary → ⊥) → (f₀ : Size) (k₀ : ℕ) → Seen s i f₀ k₀ → f ≡ f₀ → k ≡ k₀ → Seen s (i + 1) f k
-  seen-before h f₀ k₀ g ef ek l = let z = g (omega arith) in (ef ∙ z .0, ek ∙ z .1)
+      pub none-in : q .listed ≡ false → m ≡ n → qs ≡ ps → Row (i + 1) m qs
+      none-in t em eq =
+          let g : listedBetween s a (i + 1) ≡ listedBetween s a i =
+          listed-more i ha ∙ rw (← e, t) (append-nil (listedBetween s a i)) in
+          rw g (em ∙ r .0, eq ∙ r .1)
 
-pub all-seen : (s : Sheet) (i n k : ℕ) (f : Size) (ps : List FocusPoint) → i ≤ s .count → s .count ≤ i → s .primary < s .count
-    → Row s i n ps
-    → Seen s i f k
-    → _≡_ {A = Present} (record { frame = f; points = ps; count = n; index = k }) (presentOf s)
-unfolding presentOf listing listCount
-all-seen s i n k f ps a b h r g =
-    let e : i ≡ s .count = omega arith in
-    let z = g (omega arith) in
-    rw (r .0, r .1, z .0, z .1, e)
+  -- once the primary has been seen, its place and its index are known
+  abbrev pub Seen : ℕ → Carried → ℕ → Type 0
+  Seen i q k = s .primary < i → (q ≡ placedAt s (s .primary)) × (k ≡ length (listedBetween s a (s .primary)))
+
+  module _ (i : ℕ) (q : Carried) (k : ℕ) where
+    pub seen-now : (n : ℕ) → n ≡ length (listedBetween s a i) → i ≡ s .primary → (p : Carried) → p ≡ placedAt s i → q ≡ p → k ≡ n
+        → Seen (i + 1) q k
+    seen-now n en h p e eq ek g = (
+      eq ∙ e ∙ ap (placedAt s) h,
+      ek ∙ en ∙ ap (λ (j : ℕ). length (listedBetween s a j)) h,
+    )
+
+    pub seen-before : (i ≡ s .primary → ⊥) → (q₀ : Carried) (k₀ : ℕ) → Seen i q₀ k₀ → q ≡ q₀ → k ≡ k₀ → Seen (i + 1) q k
+    seen-before h q₀ k₀ g eq ek l = let z = g (omega arith) in (eq ∙ z .0, ek ∙ z .1)
+
+  pub all-seen : (b i n k : ℕ) (q : Carried) (ps : List FocusPoint) → i ≤ b → b ≤ i → s .primary < b → Row i n ps → Seen i q k
+      → _≡_ {A = Present} (record { primary = q; points = ps; count = n; index = k }) (presentOf s a b)
+  unfolding presentOf
+  all-seen b i n k q ps h₁ h₂ h r g =
+      let e : i ≡ b = omega arith in
+      let z = g (omega arith) in
+      rw (r .0, r .1, z .0, z .1, e)

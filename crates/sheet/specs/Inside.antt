@@ -1,25 +1,37 @@
 -- What only the code of this crate needs: no promise to a caller rests on it.
-use Prim.Native.Nat.{ℕ}
-use mathlib.Core.Bool.{Bool}
-use mathlib.Core.List.{List}
-use lib.ListN.{getD}
+use Prim.Native.Nat.{ℕ, zero, suc}
+use mathlib.Core.Bool.{Bool, cond}
+use mathlib.Core.List.{List, [], _++_}
+use lib.Dec.{leb}
+use lib.ListN.{getD, length}
 use Rattle.reading.specs.declared.focus.InFocus.{InFocus}
 use Rattle.reading.specs.declared.geometry.Point.{Point}
 use Rattle.reading.specs.declared.geometry.Size.{Size}
 use Rattle.placing.specs.Fit.{by, swapped}
+use Rattle.placing.specs.declared.focus.FocusPoint.{FocusPoint}
 use Rattle.placing.specs.Laid.{places}
 use Rattle.sheet.specs.declared.Sheet.{Sheet}
 use Rattle.sheet.specs.declared.edits.Carried.{Carried}
-use Rattle.sheet.specs.declared.list.Present.{Present}
+use Rattle.sheet.specs.declared.Present.{Present}
 use Rattle.sheet.specs.declared.orientation.Framed.{Framed}
 use Rattle.sheet.specs.Orientation.{point, movedTo, framed}
-use Rattle.sheet.specs.Sheet.{presentFrame}
-use Rattle.sheet.specs.Lists.{listing, listCount, listIndex}
+use Rattle.sheet.specs.Sheet.{placedAt}
+use Rattle.sheet.specs.Lists.{ifCarried}
 
--- what is listed, in 39 places
-unfoldable pub presentOf : Sheet → Present
-presentOf s =
-    record { frame = presentFrame s; points = places (listing s); count = listCount s; index = listIndex s }
+-- of the load's first i points, those from index a on that no standing cut dropped, in the load's order and where the edits carry them
+unfoldable pub listedBetween : Sheet → ℕ → ℕ → List FocusPoint
+listedBetween s a zero = []
+listedBetween s a (suc i) = listedBetween s a i ++ cond (leb a i) (ifCarried (placedAt s i)) []
+
+-- these in 39 places, and the primary
+unfoldable pub presentOf : Sheet → ℕ → ℕ → Present
+presentOf s a b =
+    record {
+      primary = placedAt s (s .primary);
+      points = places (listedBetween s a b);
+      count = length (listedBetween s a b);
+      index = length (listedBetween s a (s .primary));
+    }
 
 -- an orientation in one step: the point at (x, y), the frame and the area as they are
 abbrev pub placedUpright : ℕ → ℕ → Framed → Framed
@@ -38,6 +50,6 @@ carried b n c a g f =
       frame = f;
     }
 
--- and with center, area and frame in six numbers
+-- and of six numbers: center, area and frame across, and then the three down
 abbrev pub carriedOf : Bool → ℕ → InFocus → List ℕ → Carried
-carriedOf b n g e = carried b n (point (getD e 0 0) (getD e 1 0)) (by (getD e 2 0) (getD e 3 0)) g (by (getD e 4 0) (getD e 5 0))
+carriedOf b n g e = carried b n (point (getD e 0 0) (getD e 3 0)) (by (getD e 1 0) (getD e 4 0)) g (by (getD e 2 0) (getD e 5 0))

@@ -194,20 +194,20 @@ fn edit_at(words: &[u32; 320], i: usize) -> Edit
     }
 }
 
-// The point and frame that a walk ends with: six numbers, the center, the area's sides and the frame's, each across and then down.
+// The point and frame that a walk ends with, of six numbers: center, area and frame across, and then the three down.
 fn carried_of(listed: bool, number: u32, in_focus: InFocus, end: [u32; 6]) -> Carried
     ensures { λ r. ⌜ r ≡ carriedOf listed number in_focus end ⌝ }
 {
     let center = Point {
         x: end[0],
-        y: end[1],
+        y: end[3],
     };
     let size = Size {
-        width: end[2],
-        height: end[3],
+        width: end[1],
+        height: end[4],
     };
     let frame = Size {
-        width: end[4],
+        width: end[2],
         height: end[5],
     };
     let point = FocusPoint {
@@ -245,10 +245,10 @@ fn walk(
     if n == 0 {
         *end = [
             center.x,
-            center.y,
             size.width,
-            size.height,
             frame.width,
+            center.y,
+            size.height,
             frame.height,
         ];
         return listed;
@@ -283,13 +283,6 @@ fn walk(
     )
 }
 
-// How many of n edits the words hold.
-fn held(n: usize) -> usize
-    ensures { λ r. ⌜ r ≡ min n 64 ⌝ }
-{
-    if 64 < n { 64 } else { n }
-}
-
 // The place of a point of the frame after the first n edits; after 64, which is all that the words hold, where there are to be more.
 pub fn place_after(frame: Size, point: FocusPoint, words: &[u32; 320], n: usize) -> Carried
     ensures { λ r. ⌜ r ≡ placed frame point (now (words .entry)) (min n 64) ⌝ }
@@ -299,10 +292,25 @@ pub fn place_after(frame: Size, point: FocusPoint, words: &[u32; 320], n: usize)
     let size = point.size;
     let in_focus = point.in_focus;
     let mut end = [0; 6];
+    if 64 < n {
+        let listed = walk(
+            words,
+            0,
+            64,
+            true,
+            number,
+            center,
+            size,
+            in_focus,
+            frame,
+            &mut end,
+        );
+        return carried_of(listed, number, in_focus, end);
+    }
     let listed = walk(
         words,
         0,
-        held(n),
+        n,
         true,
         number,
         center,

@@ -15,7 +15,8 @@ ghost use mathlib.Core.Path.{_≡_};
 ghost use Prim.Native.Nat.{_<_, _≤_};
 ghost use Rattle.placing.specs.Focus.{focusOf};
 ghost use Rattle.sheet.specs.Answer.{editMeans};
-ghost use Rattle.sheet.specs.Sheet.{editedMeans, loadedMeans, freshSheet, loadSheet, usable, placedAt, addEdit, orientSheet, cutSheet, backSheet};
+ghost use Rattle.sheet.specs.Sheet.{editedMeans, loadedMeans, freshSheet, loadSheet, usable, addEdit, orientSheet, cutSheet, backSheet};
+ghost use Rattle.sheet.specs.Inside.{presentOf};
 
 pub mod edits; // an edit, and the place of one point after some edits
 pub mod list; // the listing of the points where they are now, and in another frame
@@ -50,6 +51,15 @@ pub struct Edited {
 pub struct Loaded {
     pub answer: FocusAnswer,
     pub sheet: Sheet,
+}
+
+// The listed ones among some points, where the standing edits carry them: in 39 places, how many there are, and the primary's index
+// among them. And the primary, listed or not: its frame is the present one.
+struct Present {
+    primary: Carried,
+    points: [FocusPoint; 39],
+    count: usize,
+    index: usize,
 }
 
 impl Sheet {
@@ -133,16 +143,45 @@ impl Sheet {
         self.standing <= MOST_EDITS
     }
 
-    // The point at an index, where the standing edits carry it.
-    fn place_at(self, i: usize) -> Carried
-        requires { ⌜ (i < 39) × (self .standing ≤ 64) ⌝ }
-        ensures { λ r. ⌜ r ≡ placedAt self i ⌝ }
+    // What is listed of the points from index `from` up to `to`, the primary among them. This is the one place that takes points through
+    // the edits, so that the compiler draws the walk into this loop.
+    fn present(self, from: usize, to: usize) -> Present
+        requires { ⌜ (from ≤ self .primary) × (self .primary < to) × (to ≤ 39) × (self .standing ≤ 64) ⌝ }
+        ensures { λ r. ⌜ r ≡ presentOf self from to ⌝ }
     {
         let frame = self.frame;
-        let point = self.points[i];
-        let words = self.edits;
         let n = self.standing;
-        crate::edits::place_after(frame, point, &words, n)
+        let at = self.primary;
+        let first = self.points[at];
+        let mut primary = Carried {
+            listed: true,
+            point: first,
+            frame,
+        };
+        let mut points = placing::load::no_places();
+        let mut count: usize = 0;
+        let mut index: usize = 0;
+        let mut i = from;
+        while i < to {
+            let p = self.points[i];
+            let place = crate::edits::place_after(frame, p, &self.edits, n);
+            if i == at {
+                primary = place;
+                index = count;
+            }
+            if place.listed {
+                let q = place.point;
+                points[count] = q;
+                count += 1;
+            }
+            i += 1;
+        }
+        Present {
+            primary,
+            points,
+            count,
+            index,
+        }
     }
 
     // The sheet with one more edit.
@@ -202,8 +241,9 @@ impl Sheet {
         if MOST_EDITS <= self.standing {
             return self.ends(EditAnswer::Full);
         }
-        let primary = self.primary;
-        let place = self.place_at(primary);
+        let at = self.primary;
+        let present = self.present(at, at + 1);
+        let place = present.primary;
         let frame = place.frame;
         if !crate::edits::is_good_cut(left, top, width, height, frame) {
             return self.ends(EditAnswer::BadCut);

@@ -8,21 +8,27 @@ use Rattle.reading.specs.declared.geometry.Size.{Size}
 use Rattle.sheet.specs.declared.edits.Edit.the-variants.{Cut}
 use Rattle.sheet.specs.declared.edits.Carried.{Carried}
 use Rattle.sheet.specs.declared.Sheet.{Sheet}
+use Rattle.sheet.specs.declared.Present.{Present}
 use Rattle.sheet.specs.Place.{cutPoint, moved, isGoodCut}
 use Rattle.sheet.specs.Sheet.{leaves, keptBy, usable, placedAt, presentFrame, addEdit, keepsPrimary, cutSheet}
+use Rattle.sheet.specs.Inside.{presentOf}
 use Rattle.sheet.proofs.Usable.{counts, when-empty, when-full, when-open}
 use borrow.Author.Needs.{needs}
 use Rattle.sheet.proofs.Sheet.cut.Statement.{statement}
 use Rattle.sheet.proofs.Sheet.cut.Tie as tie
 
-module _ (s : Sheet) (q : Carried) (e : q ≡ placedAt s (s .primary)) where
-  frame-of : q .frame ≡ presentFrame s
-  unfolding presentFrame
-  frame-of = ap (λ (x : Carried). x .frame) e
+module _ (s : Sheet) (a b : ℕ) (v : Present) (e : v ≡ presentOf s a b) where
+  primary-of : v .primary ≡ placedAt s (s .primary)
+  unfolding presentOf
+  primary-of = ap (λ (x : Present). x .primary) e
 
-  listed-by : (l t w h : ℕ) (u : Carried) → u ≡ cutPoint l t w h q → u .listed ≡ keepsPrimary s (Cut l t w h)
+  frame-of : v .primary .frame ≡ presentFrame s
+  unfolding presentFrame
+  frame-of = ap (λ (x : Carried). x .frame) primary-of
+
+  listed-by : (l t w h : ℕ) (u : Carried) → u ≡ cutPoint l t w h (v .primary) → u .listed ≡ keepsPrimary s (Cut l t w h)
   unfolding keepsPrimary moved
-  listed-by l t w h u g = ap (λ (x : Carried). x .listed) (g ∙ ap (cutPoint l t w h) e)
+  listed-by l t w h u g = ap (λ (x : Carried). x .listed) (g ∙ ap (cutPoint l t w h) primary-of)
 
 module _ (s : Sheet) (l t w h : ℕ) (r : Bool) (e : r ≡ usable s) (n : not r ≡ false) (a : s .standing < 64)
     (f : Size) (ef : f ≡ presentFrame s) (p : Bool) (ep : p ≡ isGoodCut l t w h f) where
@@ -57,8 +63,13 @@ returns-2 : tie.Need-returns-2
 unfolding cutSheet
 returns-2 c = (c .ends2 .ensures) ∙ when-full _ _ (c .before .before .before .before .is-usable .ensures) _ (c .before .before .before .if1 .left) (c .before .if2 .taken)
 
-place-at-requires : tie.Need-place-at-requires
-place-at-requires c κs = let u = counts _ _ (c .before .before .before .is-usable .ensures) (c .before .before .if1 .left) in omega arith
+add-present : tie.Need-add-present
+add-present c = let u = counts _ _ (c .before .before .before .is-usable .ensures) (c .before .before .if1 .left) in omega arith
+
+present-requires : tie.Need-present-requires
+present-requires c κs =
+    let u = counts _ _ (c .before .before .before .is-usable .ensures) (c .before .before .if1 .left) in
+    (omega arith, omega arith, omega arith, u .edits)
 
 is-good-cut-requires : tie.Need-is-good-cut-requires
 is-good-cut-requires c κs = search needs
@@ -67,7 +78,7 @@ ends-requires-3 : tie.Need-ends-requires-3
 ends-requires-3 c κs = search needs
 
 returns-3 : tie.Need-returns-3
-returns-3 c = (c .ends3 .ensures) ∙ passes-frame _ _ _ _ _ _ (c .before .before .before .before .before .before .before .before .is-usable .ensures) (c .before .before .before .before .before .before .before .if1 .left) (c .before .before .before .before .before .if2 .left) _ (frame-of _ _ (c .before .before .before .before .place-at .ensures)) _ (c .before .before .is-good-cut .ensures) (c .before .if3 .taken)
+returns-3 c = (c .ends3 .ensures) ∙ passes-frame _ _ _ _ _ _ (c .before .before .before .before .before .before .before .before .before .is-usable .ensures) (c .before .before .before .before .before .before .before .before .if1 .left) (c .before .before .before .before .before .before .if2 .left) _ (frame-of _ _ _ _ (c .before .before .before .before .before .present .ensures)) _ (c .before .before .is-good-cut .ensures) (c .before .if3 .taken)
 
 cut-point-requires : tie.Need-cut-point-requires
 cut-point-requires c κs = search needs
@@ -76,7 +87,7 @@ ends-requires-4 : tie.Need-ends-requires-4
 ends-requires-4 c κs = search needs
 
 returns-4 : tie.Need-returns-4
-returns-4 c = (c .ends4 .ensures) ∙ drops _ _ _ _ _ _ (c .before .before .before .before .before .before .before .before .before .before .before .is-usable .ensures) (c .before .before .before .before .before .before .before .before .before .before .if1 .left) (c .before .before .before .before .before .before .before .before .if2 .left) _ (frame-of _ _ (c .before .before .before .before .before .before .before .place-at .ensures)) _ (c .before .before .before .before .before .is-good-cut .ensures) (c .before .before .before .before .if3 .left) _ (listed-by _ _ (c .before .before .before .before .before .before .before .place-at .ensures) _ _ _ _ _ (c .before .before .before .cut-point .ensures)) (c .before .if4 .taken)
+returns-4 c = (c .ends4 .ensures) ∙ drops _ _ _ _ _ _ (c .before .before .before .before .before .before .before .before .before .before .before .before .is-usable .ensures) (c .before .before .before .before .before .before .before .before .before .before .before .if1 .left) (c .before .before .before .before .before .before .before .before .before .if2 .left) _ (frame-of _ _ _ _ (c .before .before .before .before .before .before .before .before .present .ensures)) _ (c .before .before .before .before .before .is-good-cut .ensures) (c .before .before .before .before .if3 .left) _ (listed-by _ _ _ _ (c .before .before .before .before .before .before .before .before .present .ensures) _ _ _ _ _ (c .before .before .before .cut-point .ensures)) (c .before .if4 .taken)
 
 with-edit-requires : tie.Need-with-edit-requires
 with-edit-requires c κs = search needs
@@ -85,7 +96,7 @@ ends-requires-5 : tie.Need-ends-requires-5
 ends-requires-5 c κs = search needs
 
 returns-5 : tie.Need-returns-5
-returns-5 c = (c .ends5 .ensures) ∙ done _ _ _ _ _ _ (c .before .before .before .before .before .before .before .before .before .before .before .before .is-usable .ensures) (c .before .before .before .before .before .before .before .before .before .before .before .if1 .left) (c .before .before .before .before .before .before .before .before .before .if2 .left) _ (frame-of _ _ (c .before .before .before .before .before .before .before .before .place-at .ensures)) _ (c .before .before .before .before .before .before .is-good-cut .ensures) (c .before .before .before .before .before .if3 .left) _ (listed-by _ _ (c .before .before .before .before .before .before .before .before .place-at .ensures) _ _ _ _ _ (c .before .before .before .before .cut-point .ensures)) (c .before .before .if4 .left) _ (c .before .with-edit .ensures)
+returns-5 c = (c .ends5 .ensures) ∙ done _ _ _ _ _ _ (c .before .before .before .before .before .before .before .before .before .before .before .before .before .is-usable .ensures) (c .before .before .before .before .before .before .before .before .before .before .before .before .if1 .left) (c .before .before .before .before .before .before .before .before .before .before .if2 .left) _ (frame-of _ _ _ _ (c .before .before .before .before .before .before .before .before .before .present .ensures)) _ (c .before .before .before .before .before .before .is-good-cut .ensures) (c .before .before .before .before .before .if3 .left) _ (listed-by _ _ _ _ (c .before .before .before .before .before .before .before .before .before .present .ensures) _ _ _ _ _ (c .before .before .before .before .cut-point .ensures)) (c .before .before .if4 .left) _ (c .before .with-edit .ensures)
 
 pub cut-spec : {M : Type 1} → statement M
 cut-spec =
@@ -96,7 +107,8 @@ cut-spec =
     returns
     ends-requires-2
     returns-2
-    place-at-requires
+    add-present
+    present-requires
     is-good-cut-requires
     ends-requires-3
     returns-3

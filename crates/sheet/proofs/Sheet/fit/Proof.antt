@@ -3,6 +3,7 @@ use mathlib.Core.Path.{_≡_, refl, sym, ap, _∙_}
 use mathlib.Core.Bool.{Bool, true, false, not}
 use mathlib.Core.List.{List, _++_}
 use Prim.Native.Nat.{ℕ}
+use native.Mathlib.Omega.{arith}
 use lib.ListN.{length, take, drop, length-map}
 use lib.Seq.{take-at}
 use borrow.Author.Tests.{not-true, not-false}
@@ -12,13 +13,13 @@ use Rattle.placing.specs.Fit.{hasZeroSide}
 use Rattle.sheet.specs.declared.Sheet.{Sheet}
 use Rattle.sheet.specs.declared.listing.ListHead.{ListHead}
 use Rattle.sheet.specs.declared.listing.ListAnswer.the-variants.{Empty, ZeroBox, Short, Listed}
-use Rattle.sheet.specs.declared.list.Present.{Present}
+use Rattle.sheet.specs.declared.Present.{Present}
 use Rattle.sheet.specs.Sheet.{usable, presentFrame}
 use Rattle.sheet.specs.Listing.{listMeans, flat, over, hasRoom, withPoints}
 use Rattle.sheet.specs.Lists.{listing, listCount, scaledAll, fitOutcome, fitBuffer}
 use Rattle.sheet.specs.Inside.{presentOf}
 use Rattle.sheet.proofs.Usable.{counts}
-use Rattle.sheet.proofs.Present.{count-of, count-room, frame-of, points-of, short, long, head-of}
+use Rattle.sheet.proofs.Presented.{count-of, count-room, frame-of, points-of, short, long, head-of}
 use Rattle.sheet.proofs.Buffer.{no-room, has-room}
 use borrow.Author.Needs.{needs}
 use Rattle.sheet.proofs.Sheet.fit.Statement.{statement}
@@ -29,15 +30,15 @@ unfolding scaledAll
 scaled-length old new ps = length-map ps _
 
 -- the first points of those that `scaled_points` gives
-scaled-listed : (s : Sheet) (box : Size) (v : Present) → v ≡ presentOf s → (qs : List FocusPoint)
-    → qs ≡ scaledAll (v .frame) box (take (v .count) (v .points)) ++ drop (v .count) (v .points)
+scaled-listed : (s : Sheet) (box : Size) (v : Present) → v ≡ presentOf s 0 (s .count) → (qs : List FocusPoint)
+    → qs ≡ scaledAll (v .primary .frame) box (take (v .count) (v .points)) ++ drop (v .count) (v .points)
     → take (v .count) qs ≡ scaledAll (presentFrame s) box (listing s)
 unfolding listCount
 scaled-listed s box v ev qs g =
     ap (take (v .count)) g
-    ∙ take-at (scaledAll (v .frame) box (take (v .count) (v .points))) (drop (v .count) (v .points)) (v .count)
-    (scaled-length (v .frame) box (take (v .count) (v .points)) ∙ ap length (points-of s v ev) ∙ sym (count-of s v ev))
-    ∙ ap (scaledAll (v .frame) box) (points-of s v ev)
+    ∙ take-at (scaledAll (v .primary .frame) box (take (v .count) (v .points))) (drop (v .count) (v .points)) (v .count)
+    (scaled-length (v .primary .frame) box (take (v .count) (v .points)) ∙ ap length (points-of s v ev) ∙ sym (count-of s v ev))
+    ∙ ap (scaledAll (v .primary .frame) box) (points-of s v ev)
     ∙ ap (λ (f : Size). scaledAll f box (listing s)) (frame-of s v ev)
 
 module _ (s : Sheet) (box : Size) (r : Bool) (e : r ≡ usable s) (b : List ℕ) where
@@ -50,8 +51,8 @@ module _ (s : Sheet) (box : Size) (r : Bool) (e : r ≡ usable s) (b : List ℕ)
     unfolding fitOutcome fitBuffer
     zero-box t = rw (← e, not-false r n, ← ez, t) (refl, refl)
 
-    module _ (t : z ≡ false) (v : Present) (ev : v ≡ presentOf s) (qs : List FocusPoint)
-        (g : qs ≡ scaledAll (v .frame) box (take (v .count) (v .points)) ++ drop (v .count) (v .points)) (w : Bool) (out : List ℕ)
+    module _ (t : z ≡ false) (v : Present) (ev : v ≡ presentOf s 0 (s .count)) (qs : List FocusPoint)
+        (g : qs ≡ scaledAll (v .primary .frame) box (take (v .count) (v .points)) ++ drop (v .count) (v .points)) (w : Bool) (out : List ℕ)
         (p : (w ≡ hasRoom (v .count) (length b)) × (out ≡ withPoints qs (v .count) b)) where
       too-short : not w ≡ true → (listMeans Short ≡ fitOutcome s box (length b)) × (out ≡ fitBuffer s box b)
       unfolding fitOutcome fitBuffer
@@ -83,10 +84,10 @@ returns-2 : tie.Need-returns-2
 returns-2 c = zero-box _ _ _ (c .before .before .before .is-usable .ensures) _ (c .before .before .if1 .left) _ (c .before .has-zero-side .ensures) (c .if2 .taken)
 
 present-requires : tie.Need-present-requires
-present-requires c κs = let u = counts _ _ (c .before .before .before .is-usable .ensures) (c .before .before .if1 .left) in (u .points, u .primary, u .edits)
+present-requires c κs = let u = counts _ _ (c .before .before .before .is-usable .ensures) (c .before .before .if1 .left) in (omega arith, u .primary, u .points, u .edits)
 
 scaled-points-requires : tie.Need-scaled-points-requires
-scaled-points-requires c κs = count-room _ _ (c .before .before .present .ensures) (counts _ _ (c .before .before .before .before .before .before .is-usable .ensures) (c .before .before .before .before .before .if1 .left))
+scaled-points-requires c κs = count-room _ _ (c .before .before .before .present .ensures) (counts _ _ (c .before .before .before .before .before .before .before .is-usable .ensures) (c .before .before .before .before .before .before .if1 .left))
 
 write-points-requires : tie.Need-write-points-requires
 write-points-requires c κs = search needs
@@ -95,13 +96,13 @@ same-length : tie.Need-same-length
 same-length c = search needs
 
 returns-3 : tie.Need-returns-3
-returns-3 c = too-short _ _ _ (c .before .before .before .before .before .before .before .before .before .before .before .before .is-usable .ensures) _ (c .before .before .before .before .before .before .before .before .before .before .before .if1 .left) _ (c .before .before .before .before .before .before .before .before .before .before .has-zero-side .ensures) (c .before .before .before .before .before .before .before .before .before .if2 .left) _ (c .before .before .before .before .before .before .before .before .present .ensures) _ (c .before .before .before .before .before .scaled-points .ensures) _ _ (c .before .before .before .write-points .ensures) (c .if3 .taken)
+returns-3 c = too-short _ _ _ (c .before .before .before .before .before .before .before .before .before .before .before .before .before .is-usable .ensures) _ (c .before .before .before .before .before .before .before .before .before .before .before .before .if1 .left) _ (c .before .before .before .before .before .before .before .before .before .before .before .has-zero-side .ensures) (c .before .before .before .before .before .before .before .before .before .before .if2 .left) _ (c .before .before .before .before .before .before .before .before .before .present .ensures) _ (c .before .before .before .before .before .scaled-points .ensures) _ _ (c .before .before .before .write-points .ensures) (c .if3 .taken)
 
 same-length-2 : tie.Need-same-length-2
 same-length-2 c = search needs
 
 returns-4 : tie.Need-returns-4
-returns-4 c = all-listed _ _ _ (c .before .before .before .before .before .before .before .before .before .before .before .before .is-usable .ensures) _ (c .before .before .before .before .before .before .before .before .before .before .before .if1 .left) _ (c .before .before .before .before .before .before .before .before .before .before .has-zero-side .ensures) (c .before .before .before .before .before .before .before .before .before .if2 .left) _ (c .before .before .before .before .before .before .before .before .present .ensures) _ (c .before .before .before .before .before .scaled-points .ensures) _ _ (c .before .before .before .write-points .ensures) (c .if3 .left)
+returns-4 c = all-listed _ _ _ (c .before .before .before .before .before .before .before .before .before .before .before .before .before .is-usable .ensures) _ (c .before .before .before .before .before .before .before .before .before .before .before .before .if1 .left) _ (c .before .before .before .before .before .before .before .before .before .before .before .has-zero-side .ensures) (c .before .before .before .before .before .before .before .before .before .before .if2 .left) _ (c .before .before .before .before .before .before .before .before .before .present .ensures) _ (c .before .before .before .before .before .scaled-points .ensures) _ _ (c .before .before .before .write-points .ensures) (c .if3 .left)
 
 pub fit-spec : {M : Type 1} → statement M
 fit-spec =

@@ -1,30 +1,36 @@
--- `Sheet::present`: the loop's invariant is that the places hold the listed points among the first i, and that the frame and the index
+-- `Sheet::present`: the loop's invariant is that the places hold the points that are listed from `from` up to i, and that place and index
 -- are the primary's once it has been seen. Assumes nothing.
-use mathlib.Core.Path.{refl, _∙_}
+use mathlib.Core.Path.{refl}
 use mathlib.Core.Logic.{⊎-elim}
 use Prim.Native.Nat.{_-_, _≤_}
 use native.Mathlib.Omega.{arith}
 use Rattle.placing.specs.Laid.{places}
-use Rattle.sheet.specs.Sheet.{placedAt}
-use Rattle.sheet.specs.Lists.{listedTo}
-use Rattle.sheet.proofs.Most.{all-held}
-use Rattle.sheet.proofs.Listed.{Row, has-room, one-in, none-in, Seen, seen-now, seen-before, all-seen}
+use Rattle.sheet.proofs.Walked.{as-placed}
+use Rattle.sheet.proofs.Listed.{Row, empty-row, has-room, one-in, none-in, Seen, seen-now, seen-before, all-seen}
 use borrow.Author.Needs.{needs}
 use Rattle.sheet.proofs.Sheet.present.Statement.{statement}
 use Rattle.sheet.proofs.Sheet.present.Tie as tie
 
 abbrev Inv-loop : tie.InvT-loop
-Inv-loop self words frame₀ points₀ count₀ index₀ i₀ frame points count index i = (i ≤ self .count) × Row self i count points × Seen self i frame index
+Inv-loop from to self frame n at primary₀ points₀ count₀ index₀ i₀ primary points count index i = (from ≤ i) × (i ≤ to) × Row self from i count points × Seen self from i primary index
 
 abbrev μ-loop : tie.MeasureT-loop
-μ-loop self words frame₀ points₀ count₀ index₀ i₀ frame points count index i = self .count - i
+μ-loop from to self frame n at primary₀ points₀ count₀ index₀ i₀ primary points count index i = to - i
+
+mul-first : tie.Need-mul-first Inv-loop μ-loop
+mul-first c = omega (arith, c .before .pre)
+
+element-copy-out-first : tie.Need-element-copy-out-first Inv-loop μ-loop
+element-copy-out-first c = omega (arith, c .before .pre)
 
 no-places-requires : tie.Need-no-places-requires Inv-loop μ-loop
 no-places-requires c κs = search needs
 
 loop-holds : tie.Need-loop-holds Inv-loop μ-loop
-unfolding listedTo places
-loop-holds c = (omega arith, (refl, c .no-places .ensures), λ h. absurd (omega arith))
+unfolding places
+loop-holds c =
+    let h = c .before .before .before .pre in
+    (omega arith, omega (arith, h), empty-row _ _ _ (c .no-places .ensures), λ l. absurd (omega (arith, h)))
 
 mul-p : tie.Need-mul-p Inv-loop μ-loop
 mul-p c = omega (arith, c .before .before .before .before .before .pre)
@@ -37,17 +43,17 @@ place-after-requires c κs = search needs
 
 mul-points : tie.Need-mul-points Inv-loop μ-loop
 mul-points c =
-    let b = has-room _ _ _ _ (omega (arith, c .before .before .before .before .before .before .before .before .before .before .before .before .pre)) (c .before .before .before .before .before .before .before .before .loop .inv .1) in
+    let b = has-room _ _ _ _ _ (omega (arith, c .before .before .before .before .before .before .before .before .before .before .before .before .pre)) (c .before .before .before .before .before .before .before .before .loop .inv .2) in
     omega (arith, c .before .before .before .before .before .before .before .before .before .before .before .before .pre)
 
 array-set-from-points : tie.Need-array-set-from-points Inv-loop μ-loop
 array-set-from-points c =
-    let b = has-room _ _ _ _ (omega (arith, c .before .before .before .before .before .before .before .before .before .before .before .before .pre)) (c .before .before .before .before .before .before .before .before .loop .inv .1) in
+    let b = has-room _ _ _ _ _ (omega (arith, c .before .before .before .before .before .before .before .before .before .before .before .before .pre)) (c .before .before .before .before .before .before .before .before .loop .inv .2) in
     omega (arith, c .before .before .before .before .before .before .before .before .before .before .before .before .pre)
 
 add-count : tie.Need-add-count Inv-loop μ-loop
 add-count c =
-    let b = has-room _ _ _ _ (omega (arith, c .before .before .before .before .before .before .before .before .before .before .before .before .pre)) (c .before .before .before .before .before .before .before .before .loop .inv .1) in
+    let b = has-room _ _ _ _ _ (omega (arith, c .before .before .before .before .before .before .before .before .before .before .before .before .pre)) (c .before .before .before .before .before .before .before .before .loop .inv .2) in
     omega (arith, c .before .before .before .before .before .before .before .before .before .before .before .before .pre)
 
 add-i : tie.Need-add-i Inv-loop μ-loop
@@ -57,27 +63,27 @@ loop-less : tie.Need-loop-less Inv-loop μ-loop
 loop-less c = omega arith
 
 loop-again : tie.Need-loop-again Inv-loop μ-loop
-unfolding placedAt
 loop-again c =
-    let u = c .before .before .before .before .before .before .before .loop .inv in
     let h = c .before .before .before .before .before .before .before .before .before .before .before .pre in
-    let e = c .before .before .place-after .ensures ∙ all-held _ _ _ _ (h .2) in
+    let u = c .before .before .before .before .before .before .before .loop .inv in
+    let e = as-placed _ _ _ (h .3) (c .before .before .place-after .ensures) in
     (
       omega arith,
+      omega arith,
       ⊎-elim
-      (λ w. one-in _ _ _ _ (omega (arith, h)) (u .1) _ e _ _ (w .0 .taken) (w .3) (w .2))
-      (λ w. none-in _ _ _ _ (omega (arith, h)) (u .1) _ e _ _ (w .0 .left) (w .2) (w .1))
+      (λ w. one-in _ _ _ _ _ (omega (arith, h)) (u .2) (u .0) _ e _ _ (w .0 .taken) (w .3) (w .2))
+      (λ w. none-in _ _ _ _ _ (omega (arith, h)) (u .2) (u .0) _ e _ _ (w .0 .left) (w .2) (w .1))
       (c .if2 .came),
       ⊎-elim
-      (λ w. seen-now _ _ _ _ _ e _ (u .1 .0) (w .0 .taken) (w .2) (w .3))
-      (λ w. seen-before _ _ _ _ (w .0 .left) _ _ (u .2) (w .1) (w .2))
+      (λ w. seen-now _ _ _ _ _ _ (u .2 .0) (w .0 .taken) _ e (w .1) (w .2))
+      (λ w. seen-before _ _ _ _ _ (w .0 .left) _ _ (u .3) (w .1) (w .2))
       (c .before .if1 .came),
     )
 
 returns : tie.Need-returns Inv-loop μ-loop
 returns c =
-    all-seen _ _ _ _ _ _ (c .before .loop .inv .0) (c .loop-test .left) (c .before .before .before .before .before .pre .1) (c .before .loop .inv .1)
-    (c .before .loop .inv .2)
+    let u = c .before .loop .inv in
+    all-seen _ _ _ _ _ _ _ _ (u .1) (c .loop-test .left) (c .before .before .before .before .before .pre .1) (u .2) (u .3)
 
 pub present-spec : {M : Type 1} → statement M
 present-spec =
@@ -85,6 +91,8 @@ present-spec =
     (tie.spec
     Inv-loop
     μ-loop
+    mul-first
+    element-copy-out-first
     no-places-requires
     loop-holds
     mul-p

@@ -3,40 +3,42 @@ use Prim.Native.Nat.{ℕ, _*_, _<_, _≤_}
 use mathlib.Core.Bool.{true, false}
 use mathlib.Core.Path.{_≡_, sym, ap, ap₂, _∙_}
 use lib.Dec.{ltb}
-use lib.ListN.{take}
+use lib.ListN.{length, take}
 use native.Mathlib.Omega.{arith}
 use borrow.Author.Tests.{lt-ltb, le-ltb}
 use Rattle.reading.specs.declared.geometry.Size.{Size}
 use Rattle.sheet.specs.declared.Sheet.{Sheet}
 use Rattle.sheet.specs.declared.listing.ListHead.{ListHead}
-use Rattle.sheet.specs.declared.list.Present.{Present}
+use Rattle.sheet.specs.declared.Present.{Present}
 use Rattle.sheet.specs.Sheet.{presentFrame}
 use Rattle.sheet.specs.Lists.{listing, listCount, listIndex, isShort, headIn}
-use Rattle.sheet.specs.Inside.{presentOf}
+use Rattle.sheet.specs.Inside.{listedBetween, presentOf}
 use Rattle.sheet.proofs.Usable.{Counts}
 use Rattle.placing.proofs.Places.{take-places}
-use Rattle.sheet.proofs.Listed.{listed-length}
+use Rattle.sheet.proofs.Listed.{from-the-first, listed-length}
 
-module _ (s : Sheet) (v : Present) (e : v ≡ presentOf s) where
+module _ (s : Sheet) (v : Present) (e : v ≡ presentOf s 0 (s .count)) where
   pub count-of : v .count ≡ listCount s
-  unfolding presentOf
-  count-of = ap (λ (x : Present). x .count) e
+  unfolding presentOf listCount listing
+  count-of = ap (λ (x : Present). x .count) e ∙ ap length (from-the-first s (s .count))
 
   index-of : v .index ≡ listIndex s
-  unfolding presentOf
-  index-of = ap (λ (x : Present). x .index) e
+  unfolding presentOf listIndex
+  index-of = ap (λ (x : Present). x .index) e ∙ ap length (from-the-first s (s .primary))
 
-  pub frame-of : v .frame ≡ presentFrame s
-  unfolding presentOf
-  frame-of = ap (λ (x : Present). x .frame) e
+  pub frame-of : v .primary .frame ≡ presentFrame s
+  unfolding presentOf presentFrame
+  frame-of = ap (λ (x : Present). x .primary .frame) e
 
   pub points-of : take (v .count) (v .points) ≡ listing s
-  unfolding presentOf listCount
-  points-of = ap (λ (x : Present). take (x .count) (x .points)) e ∙ take-places (listing s)
+  unfolding presentOf listing
+  points-of =
+      ap (λ (x : Present). take (x .count) (x .points)) e ∙ take-places (listedBetween s 0 (s .count)) ∙ from-the-first s (s .count)
 
   pub count-room : Counts s → v .count ≤ 39
-  unfolding listCount listing
-  count-room c = omega (arith, count-of, listed-length s (s .count))
+  unfolding presentOf
+  count-room c = let g : v .count ≡ length (listedBetween s 0 (s .count)) = ap (λ (x : Present). x .count) e in
+      omega (arith, g, listed-length s 0 (s .count))
 
   pub short : (m : ℕ) → m < 6 * v .count → isShort s m ≡ true
   unfolding isShort
