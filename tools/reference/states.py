@@ -3,9 +3,9 @@
 states.py --check    say whether the files are what would be written
 
 Writes the jobs of the program state_bench, stdin of that crate, each kind of it
-some times over, behind one turn and, for lists, behind none, 32 and 64 equal
-edits; and what it must print, its stdout: what the book of reference.py answers
-to the last of the same calls, and how many edits then stand. The times
+some times over, behind one turn and, kinds 5, 6 and 9, behind none, 32 and 64
+equal edits; and what it must print, its stdout: what the book of reference.py
+answers to the last of the same calls, and how many edits then stand. The times
 themselves are taken by tools/bench.
 """
 
@@ -25,7 +25,7 @@ TURN, LIST = calls.orient(6), calls.show(240)
 # The edits that stand before lists. The cut is of the whole frame: it can be made again, and every point stays.
 EQUAL = [TURN, calls.orient(2), calls.cut(0, 0, *reference.WHOLE_FRAME)]
 
-# What each kind does once. Kinds 1 and 2, 5 and 6, 7 and 8 are of a sheet and of a workspace.
+# What each kind does once. Kinds 1 and 2, 5 and 6, 7 and 8 are of a sheet and of a workspace. Kind 9 makes the job's own edit.
 KINDS = {
     1: [TURN, calls.BACK],
     2: [TURN, calls.BACK],
@@ -35,6 +35,7 @@ KINDS = {
     6: [LIST],
     7: [calls.orient(0)],
     8: [calls.orient(0)],
+    9: [None, calls.BACK],
 }
 
 
@@ -45,7 +46,7 @@ def printed(kind, count, standing, edit):
         calls.answer(book, call)
     last = "none"
     for call in KINDS[kind] * count:
-        last = calls.answer(book, call)
+        last = calls.answer(book, call or edit)
     if last.startswith("frame"):
         last = "ok"
     return "kind %d, times %d: %s, standing %d\n" % (kind, count, last, len(book.row))
@@ -54,7 +55,7 @@ def printed(kind, count, standing, edit):
 def files():
     """The files, as (path, bytes)."""
     jobs = [(kind, count, 1, TURN) for kind in KINDS for count in (0, 1, 65)]
-    jobs += [(kind, 2, standing, edit) for kind in (5, 6) for edit in EQUAL for standing in (0, 32, 64)]
+    jobs += [(kind, 2, standing, edit) for kind in (5, 6, 9) for edit in EQUAL for standing in (0, 32, 64)]
     records = [calls.load(*LOAD)] + [struct.pack(">BIB", *job[:3]) + job[3] for job in jobs + [(0, 1, 0, b"")]]
     yield "crates/state_bench/stdin", b"".join(record.ljust(stored.RECORD, b"\0") for record in records)
     yield "crates/state_bench/stdout", ("".join(printed(*job) for job in jobs) + "kind 0, times 1: no such kind\n").encode()

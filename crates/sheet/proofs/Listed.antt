@@ -17,6 +17,7 @@ use Rattle.sheet.specs.declared.Present.{Present}
 use Rattle.sheet.specs.Sheet.{placedAt}
 use Rattle.sheet.specs.Lists.{ifCarried, listedTo}
 use Rattle.sheet.specs.Inside.{listedBetween, presentOf}
+use Rattle.sheet.proofs.Walked.{reached, as-placed}
 use Rattle.placing.proofs.Places.{set-places}
 
 one-at-most : (b : Bool) (q : Carried) → length (cond b (ifCarried q) []) ≤ 1
@@ -62,17 +63,17 @@ module _ (s : Sheet) (a : ℕ) where
     pub has-room : n ≤ i
     has-room = omega (arith, r .0, listed-length i)
 
-    module _ (ha : a ≤ i) (q : Carried) (e : q ≡ placedAt s i) (m : ℕ) (qs : List FocusPoint) where
+    module _ (ha : a ≤ i) (q : Carried) (l : s .standing ≤ 64) (e : q ≡ reached s i) (m : ℕ) (qs : List FocusPoint) where
       pub one-in : q .listed ≡ true → m ≡ n + 1 → qs ≡ set ps n (q .point) → Row (i + 1) m qs
       one-in t em eq =
           let b = has-room in
-          let g : listedBetween s a (i + 1) ≡ listedBetween s a i ++ q .point ∷ [] = listed-more i ha ∙ rw (← e, t) in
+          let g : listedBetween s a (i + 1) ≡ listedBetween s a i ++ q .point ∷ [] = listed-more i ha ∙ rw (← as-placed s i q l e, t) in
           rw g (em ∙ rw (length-append, r .0), eq ∙ rw (r .1, r .0) (set-places (listedBetween s a i) (q .point) (omega (arith, r .0))))
 
       pub none-in : q .listed ≡ false → m ≡ n → qs ≡ ps → Row (i + 1) m qs
       none-in t em eq =
           let g : listedBetween s a (i + 1) ≡ listedBetween s a i =
-          listed-more i ha ∙ rw (← e, t) (append-nil (listedBetween s a i)) in
+          listed-more i ha ∙ rw (← as-placed s i q l e, t) (append-nil (listedBetween s a i)) in
           rw g (em ∙ r .0, eq ∙ r .1)
 
   -- once the primary has been seen, its place and its index are known
@@ -80,10 +81,10 @@ module _ (s : Sheet) (a : ℕ) where
   Seen i q k = s .primary < i → (q ≡ placedAt s (s .primary)) × (k ≡ length (listedBetween s a (s .primary)))
 
   module _ (i : ℕ) (q : Carried) (k : ℕ) where
-    pub seen-now : (n : ℕ) → n ≡ length (listedBetween s a i) → i ≡ s .primary → (p : Carried) → p ≡ placedAt s i → q ≡ p → k ≡ n
+    pub seen-now : (n : ℕ) → n ≡ length (listedBetween s a i) → i ≡ s .primary → (p : Carried) → s .standing ≤ 64 → p ≡ reached s i → q ≡ p → k ≡ n
         → Seen (i + 1) q k
-    seen-now n en h p e eq ek g = (
-      eq ∙ e ∙ ap (placedAt s) h,
+    seen-now n en h p l e eq ek g = (
+      eq ∙ as-placed s i p l e ∙ ap (placedAt s) h,
       ek ∙ en ∙ ap (λ (j : ℕ). length (listedBetween s a j)) h,
     )
 

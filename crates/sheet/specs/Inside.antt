@@ -50,6 +50,6 @@ carried b n c a g f =
       frame = f;
     }
 
--- and of six numbers: center, area and frame across, and then the three down
+-- and of six numbers: center, area and frame, each across and then down
 abbrev pub carriedOf : Bool → ℕ → InFocus → List ℕ → Carried
-carriedOf b n g e = carried b n (point (getD e 0 0) (getD e 3 0)) (by (getD e 1 0) (getD e 4 0)) g (by (getD e 2 0) (getD e 5 0))
+carriedOf b n g e = carried b n (point (getD e 0 0) (getD e 1 0)) (by (getD e 2 0) (getD e 3 0)) g (by (getD e 4 0) (getD e 5 0))

@@ -1,6 +1,7 @@
 pub mod Orientation
 pub mod OrientationLaws
 pub mod Place
+pub mod WalkLaws
 pub mod Answer
 pub mod Listing
 pub mod Sheet

@@ -194,20 +194,20 @@ fn edit_at(words: &[u32; 320], i: usize) -> Edit
     }
 }
 
-// The point and frame that a walk ends with, of six numbers: center, area and frame across, and then the three down.
+// The point and frame that a walk ends with, of six numbers: center, area and frame, each across and then down.
 fn carried_of(listed: bool, number: u32, in_focus: InFocus, end: [u32; 6]) -> Carried
     ensures { λ r. ⌜ r ≡ carriedOf listed number in_focus end ⌝ }
 {
     let center = Point {
         x: end[0],
-        y: end[3],
+        y: end[1],
     };
     let size = Size {
-        width: end[1],
-        height: end[4],
+        width: end[2],
+        height: end[3],
     };
     let frame = Size {
-        width: end[2],
+        width: end[4],
         height: end[5],
     };
     let point = FocusPoint {
@@ -245,10 +245,10 @@ fn walk(
     if n == 0 {
         *end = [
             center.x,
-            size.width,
-            frame.width,
             center.y,
+            size.width,
             size.height,
+            frame.width,
             frame.height,
         ];
         return listed;
@@ -283,6 +283,13 @@ fn walk(
     )
 }
 
+// How many of n edits the words hold.
+fn held(n: usize) -> usize
+    ensures { λ r. ⌜ r ≡ min n 64 ⌝ }
+{
+    if 64 < n { 64 } else { n }
+}
+
 // The place of a point of the frame after the first n edits; after 64, which is all that the words hold, where there are to be more.
 pub fn place_after(frame: Size, point: FocusPoint, words: &[u32; 320], n: usize) -> Carried
     ensures { λ r. ⌜ r ≡ placed frame point (now (words .entry)) (min n 64) ⌝ }
@@ -292,25 +299,10 @@ pub fn place_after(frame: Size, point: FocusPoint, words: &[u32; 320], n: usize)
     let size = point.size;
     let in_focus = point.in_focus;
     let mut end = [0; 6];
-    if 64 < n {
-        let listed = walk(
-            words,
-            0,
-            64,
-            true,
-            number,
-            center,
-            size,
-            in_focus,
-            frame,
-            &mut end,
-        );
-        return carried_of(listed, number, in_focus, end);
-    }
     let listed = walk(
         words,
         0,
-        n,
+        held(n),
         true,
         number,
         center,

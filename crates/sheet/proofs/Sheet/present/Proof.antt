@@ -5,7 +5,6 @@ use mathlib.Core.Logic.{⊎-elim}
 use Prim.Native.Nat.{_-_, _≤_}
 use native.Mathlib.Omega.{arith}
 use Rattle.placing.specs.Laid.{places}
-use Rattle.sheet.proofs.Walked.{as-placed}
 use Rattle.sheet.proofs.Listed.{Row, empty-row, has-room, one-in, none-in, Seen, seen-now, seen-before, all-seen}
 use borrow.Author.Needs.{needs}
 use Rattle.sheet.proofs.Sheet.present.Statement.{statement}
@@ -66,16 +65,16 @@ loop-again : tie.Need-loop-again Inv-loop μ-loop
 loop-again c =
     let h = c .before .before .before .before .before .before .before .before .before .before .before .pre in
     let u = c .before .before .before .before .before .before .before .loop .inv in
-    let e = as-placed _ _ _ (h .3) (c .before .before .place-after .ensures) in
+    let e = c .before .before .place-after .ensures in
     (
       omega arith,
       omega arith,
       ⊎-elim
-      (λ w. one-in _ _ _ _ _ (omega (arith, h)) (u .2) (u .0) _ e _ _ (w .0 .taken) (w .3) (w .2))
-      (λ w. none-in _ _ _ _ _ (omega (arith, h)) (u .2) (u .0) _ e _ _ (w .0 .left) (w .2) (w .1))
+      (λ w. one-in _ _ _ _ _ (omega (arith, h)) (u .2) (u .0) _ (h .3) e _ _ (w .0 .taken) (w .3) (w .2))
+      (λ w. none-in _ _ _ _ _ (omega (arith, h)) (u .2) (u .0) _ (h .3) e _ _ (w .0 .left) (w .2) (w .1))
       (c .if2 .came),
       ⊎-elim
-      (λ w. seen-now _ _ _ _ _ _ (u .2 .0) (w .0 .taken) _ e (w .1) (w .2))
+      (λ w. seen-now _ _ _ _ _ _ (u .2 .0) (w .0 .taken) _ (h .3) e (w .1) (w .2))
       (λ w. seen-before _ _ _ _ _ (w .0 .left) _ _ (u .3) (w .1) (w .2))
       (c .before .if1 .came),
     )
