@@ -22,8 +22,12 @@ import stored
 LOAD = (None, None, reference.MODEL, reference.build_block((reference.RECORD, 7, 30, b"0100\0\0\3\1\xff\xff\xff\xff\x7f".ljust(30, b"\0"))))
 NAMES = [b"n" * 15 + bytes([place]) for place in range(8)]
 TURN, LIST = calls.orient(6), calls.show(240)
-# The edits that stand before lists. The cut is of the whole frame: it can be made again, and every point stays.
-EQUAL = [TURN, calls.orient(2), calls.cut(0, 0, *reference.WHOLE_FRAME)]
+# The edits that stand before. The cut is of the whole frame: it can be made again, and every point stays.
+EQUAL = {
+    "orientation 6": TURN,
+    "orientation 2": calls.orient(2),
+    "a cut of the whole frame": calls.cut(0, 0, *reference.WHOLE_FRAME),
+}
 
 # What each kind does once. Kinds 1 and 2, 5 and 6, 7 and 8 are of a sheet and of a workspace. Kind 9 makes the job's own edit.
 KINDS = {
@@ -37,6 +41,11 @@ KINDS = {
     8: [calls.orient(0)],
     9: [None, calls.BACK],
 }
+
+
+def job(kind, count, standing, edit):
+    """A job's bytes: its kind, how many times, and how many of an edit stand before."""
+    return (struct.pack(">BIB", kind, count, standing) + edit).ljust(stored.RECORD, b"\0")
 
 
 def printed(kind, count, standing, edit):
@@ -55,10 +64,10 @@ def printed(kind, count, standing, edit):
 def files():
     """The files, as (path, bytes)."""
     jobs = [(kind, count, 1, TURN) for kind in KINDS for count in (0, 1, 65)]
-    jobs += [(kind, 2, standing, edit) for kind in (5, 6, 9) for edit in EQUAL for standing in (0, 32, 64)]
-    records = [calls.load(*LOAD)] + [struct.pack(">BIB", *job[:3]) + job[3] for job in jobs + [(0, 1, 0, b"")]]
-    yield "crates/state_bench/stdin", b"".join(record.ljust(stored.RECORD, b"\0") for record in records)
-    yield "crates/state_bench/stdout", ("".join(printed(*job) for job in jobs) + "kind 0, times 1: no such kind\n").encode()
+    jobs += [(kind, 2, standing, edit) for kind in (5, 6, 9) for edit in EQUAL.values() for standing in (0, 32, 64)]
+    records = [calls.load(*LOAD).ljust(stored.RECORD, b"\0"), *(job(*each) for each in jobs), job(0, 1, 0, b"")]
+    yield "crates/state_bench/stdin", b"".join(records)
+    yield "crates/state_bench/stdout", ("".join(printed(*each) for each in jobs) + "kind 0, times 1: no such kind\n").encode()
 
 
 if __name__ == "__main__":

@@ -36,11 +36,11 @@ from-the-first s (suc i) = rw (le-leb 0 i (omega arith), from-the-first s i)
 
 module _ (s : Sheet) (a : ℕ) where
   -- no more are listed than there are
-  pub listed-length : (i : ℕ) → length (listedBetween s a i) ≤ i
+  pub between-length : (i : ℕ) → length (listedBetween s a i) ≤ i
   unfolding listedBetween
-  listed-length zero = omega arith
-  listed-length (suc i) =
-      rw length-append (omega (arith, listed-length i, one-at-most (leb a i) (placedAt s i)))
+  between-length zero = omega arith
+  between-length (suc i) =
+      rw length-append (omega (arith, between-length i, one-at-most (leb a i) (placedAt s i)))
 
   -- before index a there is none
   none-before : (i : ℕ) → i ≤ a → listedBetween s a i ≡ []
@@ -61,7 +61,7 @@ module _ (s : Sheet) (a : ℕ) where
 
   module _ (i n : ℕ) (ps : List FocusPoint) (hi : i < 39) (r : Row i n ps) where
     pub has-room : n ≤ i
-    has-room = omega (arith, r .0, listed-length i)
+    has-room = omega (arith, r .0, between-length i)
 
     module _ (ha : a ≤ i) (q : Carried) (l : s .standing ≤ 64) (e : q ≡ reached s i) (m : ℕ) (qs : List FocusPoint) where
       pub one-in : q .listed ≡ true → m ≡ n + 1 → qs ≡ set ps n (q .point) → Row (i + 1) m qs
@@ -98,3 +98,7 @@ module _ (s : Sheet) (a : ℕ) where
       let e : i ≡ b = omega arith in
       let z = g (omega arith) in
       rw (r .0, r .1, z .0, z .1, e)
+
+-- no more are listed than there are, in the definitions' words
+pub listed-length : (s : Sheet) (i : ℕ) → length (listedTo s i) ≤ i
+listed-length s i = rw (← from-the-first s i) (between-length s 0 i)

@@ -36,9 +36,8 @@ module _ (s : Sheet) (v : Present) (e : v ≡ presentOf s 0 (s .count)) where
       ap (λ (x : Present). take (x .count) (x .points)) e ∙ take-places (listedBetween s 0 (s .count)) ∙ from-the-first s (s .count)
 
   pub count-room : Counts s → v .count ≤ 39
-  unfolding presentOf
-  count-room c = let g : v .count ≡ length (listedBetween s 0 (s .count)) = ap (λ (x : Present). x .count) e in
-      omega (arith, g, listed-length s 0 (s .count))
+  unfolding listCount listing
+  count-room c = omega (arith, count-of, listed-length s (s .count))
 
   pub short : (m : ℕ) → m < 6 * v .count → isShort s m ≡ true
   unfolding isShort

@@ -150,12 +150,12 @@ impl Sheet {
         ensures { λ r. ⌜ r ≡ presentOf self from to ⌝ }
     {
         let frame = self.frame;
-        let n = self.standing;
+        let standing = self.standing;
         let at = self.primary;
-        let first = self.points[at];
+        let loaded = self.points[at];
         let mut primary = Carried {
             listed: true,
-            point: first,
+            point: loaded,
             frame,
         };
         let mut points = placing::load::no_places();
@@ -164,7 +164,7 @@ impl Sheet {
         let mut i = from;
         while i < to {
             let p = self.points[i];
-            let place = crate::edits::place_after(frame, p, &self.edits, n);
+            let place = crate::edits::place_after(frame, p, &self.edits, standing);
             if i == at {
                 primary = place;
                 index = count;

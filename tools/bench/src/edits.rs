@@ -1,22 +1,43 @@
 //! The listing of points behind edits by a plain loop, as one would write it in Rust: what a list is timed beside.
 
-/// An orientation by its number, or a cut.
+/// The eight orientations, by their numbers 1 to 8 in this order.
+#[derive(Clone, Copy)]
+pub enum Orientation {
+    Normal,
+    FlipHorizontal,
+    Rotate180,
+    FlipVertical,
+    Transpose,
+    Rotate90,
+    Transverse,
+    Rotate270,
+}
+
+use Orientation::*;
+
+/// The orientation of number i + 1 at place i.
+pub const ORIENTATIONS: [Orientation; 8] = [Normal, FlipHorizontal, Rotate180, FlipVertical, Transpose, Rotate90, Transverse, Rotate270];
+
+/// An orientation, or a cut.
 #[derive(Clone, Copy)]
 pub enum Edit {
-    Orient(u8),
+    Orient(Orientation),
     Cut { left: u32, top: u32, width: u32, height: u32 },
 }
 
+/// A turn: orientation 6.
+pub const TURN: Edit = Edit::Orient(Rotate90);
+
 /// Where a point is: whether no cut dropped it, its frame, its center and its area, each across and then down.
 #[derive(Clone, Copy)]
-struct Carried {
-    listed: bool,
-    frame: [u32; 2],
+pub struct Carried {
+    pub listed: bool,
+    pub frame: [u32; 2],
     center: [u32; 2],
     area: [u32; 2],
 }
 
-/// What is listed: the frame, how many points, the primary's index, and six numbers a point.
+/// What a listing says beside its points: their frame and number, and the primary's index among them.
 #[derive(Clone, Copy, Debug, PartialEq)]
 pub struct Head {
     pub frame: [u32; 2],
@@ -29,21 +50,25 @@ impl Edit {
     pub fn of(words: &[u32]) -> Edit {
         match *words {
             [0, left, top, width, height] => Edit::Cut { left, top, width, height },
-            _ => Edit::Orient(words[0] as u8),
+            _ => Edit::Orient(ORIENTATIONS[words[0] as usize - 1]),
         }
     }
 
     /// The call that makes it, in bytes.
     pub fn call(self) -> Vec<u8> {
         match self {
-            Edit::Orient(number) => vec![9, number],
-            Edit::Cut { left, top, width, height } => [2].into_iter().chain([left, top, width, height].into_iter().flat_map(u32::to_be_bytes)).collect(),
+            Edit::Orient(orientation) => vec![9, orientation as u8 + 1],
+            Edit::Cut { left, top, width, height } => {
+                let numbers = [left, top, width, height].map(u32::to_be_bytes);
+                [&[2], numbers.as_flattened()].concat()
+            }
         }
     }
 
-    fn moved(self, from: Carried) -> Carried {
+    /// A point behind this edit too.
+    pub fn moved(self, from: Carried) -> Carried {
         match self {
-            Edit::Orient(number) => oriented(from, number),
+            Edit::Orient(orientation) => oriented(from, orientation),
             Edit::Cut { left, top, width, height } => {
                 let [x, y] = from.center;
                 let (frame, center) = ([width, height], [x.wrapping_sub(left), y.wrapping_sub(top)]);
@@ -54,20 +79,20 @@ impl Edit {
     }
 }
 
-/// A point under the orientation of a number.
-fn oriented(from: Carried, number: u8) -> Carried {
+/// A point under an orientation.
+fn oriented(from: Carried, orientation: Orientation) -> Carried {
     let Carried { frame: [w, h], center: [x, y], area: [a, b], .. } = from;
     let upright = |center| Carried { center, ..from };
     let across = |center| Carried { frame: [h, w], center, area: [b, a], ..from };
-    match number {
-        2 => upright([w - x, y]),
-        3 => upright([w - x, h - y]),
-        4 => upright([x, h - y]),
-        5 => across([y, x]),
-        6 => across([h - y, x]),
-        7 => across([h - y, w - x]),
-        8 => across([y, w - x]),
-        _ => from,
+    match orientation {
+        Normal => from,
+        FlipHorizontal => upright([w - x, y]),
+        Rotate180 => upright([w - x, h - y]),
+        FlipVertical => upright([x, h - y]),
+        Transpose => across([y, x]),
+        Rotate90 => across([h - y, x]),
+        Transverse => across([h - y, w - x]),
+        Rotate270 => across([y, w - x]),
     }
 }
 
@@ -76,6 +101,15 @@ fn fits([w, h]: [u32; 2], [x, y]: [u32; 2], [a, b]: [u32; 2]) -> bool {
     let axis = |side: u32, at: u32, limit: u32| side.div_ceil(2) <= at && u64::from(at) + u64::from(side.div_ceil(2)) <= u64::from(limit);
     let area = (a, b) == (0, 0) || a != 0 && b != 0 && axis(a, x, w) && axis(b, y, h);
     w != 0 && h != 0 && x <= w && y <= h && area
+}
+
+/// A point of a frame, of its six numbers, behind edits.
+pub fn carried(frame: [u32; 2], [_, x, y, width, height, _]: [u32; 6], edits: impl Iterator<Item = Edit>) -> Carried {
+    let mut place = Carried { listed: true, frame, center: [x, y], area: [width, height] };
+    for edit in edits {
+        place = edit.moved(place);
+    }
+    place
 }
 
 /// Lists the points of a frame, six numbers each, behind edits into a buffer; 13 where it is too short.
@@ -88,17 +122,14 @@ pub fn list(
 ) -> Result<Head, u32> {
     let mut listed = [[0; 6]; 39];
     let mut head = Head { frame, count: 0, index: 0 };
-    for (i, &[number, x, y, width, height, focus]) in points.iter().enumerate() {
-        let mut place = Carried { listed: true, frame, center: [x, y], area: [width, height] };
-        for edit in edits.clone() {
-            place = edit.moved(place);
-        }
+    for (i, &point) in points.iter().enumerate() {
+        let place = carried(frame, point, edits.clone());
         if i == primary {
             head.frame = place.frame;
             head.index = head.count;
         }
         if place.listed {
-            listed[head.count] = [number, place.center[0], place.center[1], place.area[0], place.area[1], focus];
+            listed[head.count] = [point[0], place.center[0], place.center[1], place.area[0], place.area[1], point[5]];
             head.count += 1;
         }
     }

@@ -17,7 +17,7 @@ use std::process::{Command, Stdio};
 use std::time::{Duration, Instant};
 
 use blocks::{Load, call_line, grown, stored, with_all_points};
-use edits::Edit;
+use edits::{Edit, ORIENTATIONS, Orientation};
 use oracle::{Answer, FocusOrigin};
 
 const ROUNDS: usize = 7;
@@ -149,8 +149,8 @@ fn lists_table(root: &Path, load: &[u8], sheet: states::Sheet) {
     let [focusdesk, state_bench] = ["focusdesk", "state_bench"].map(|name| root.join("target/bin").join(name));
     let [width, height] = sheet.frame;
     let kinds = [
-        ("orientation 6", Edit::Orient(6)),
-        ("orientation 2", Edit::Orient(2)),
+        ("orientation 6", Edit::Orient(Orientation::Rotate90)),
+        ("orientation 2", Edit::Orient(Orientation::FlipHorizontal)),
         ("a cut of the whole frame", Edit::Cut { left: 0, top: 0, width, height }),
     ];
     println!("| edits that stand | a plain loop in Rust, µs | a list on a sheet, µs | times as long | a list line by focusdesk, µs |");
@@ -173,7 +173,7 @@ fn lists_table(root: &Path, load: &[u8], sheet: states::Sheet) {
         .collect();
     println!();
     println!("Behind 64 equal edits a list on a sheet takes so many times as long as behind 32: {}.", ratios.join(", "));
-    let eight: Vec<Edit> = (1..=8).map(Edit::Orient).collect::<Vec<_>>().repeat(8);
+    let eight = ORIENTATIONS.map(Edit::Orient).repeat(8);
     let [none, line] = [&[], &eight[..]].map(|edits| line_time(&focusdesk, edits));
     println!("Behind 64 of the eight orientations, one after the other, a list line by focusdesk takes {line:.1} µs, {:.1} more than behind none; the plain loop {:.1}.", line - none, plain_list_time(sheet, &eight));
 }
@@ -187,16 +187,11 @@ fn nanoseconds_of(time: impl Fn(u32) -> Duration) -> f64 {
     time(count).saturating_sub(without).as_secs_f64() * 1e9 / count as f64
 }
 
-/// A job of state_bench behind one turn.
-fn job(load: &[u8], kind: u8, count: u32) -> Vec<u8> {
-    states::job(load, kind, count, 1, Edit::Orient(states::TURN as u8))
-}
-
 /// Nanoseconds for one call of a kind by the plain states, which must end as the program does before their time means anything.
 fn plain_time<C: states::Calling>(program: &Path, load: &[u8], sheet: states::Sheet, (kind, name): (u8, &str)) -> f64 {
     let plain = |count| states::plain::<C>(sheet, kind, count, &mut [0; focuspoints::LISTING]);
     for count in [1, 65] {
-        assert_eq!(plain(count), program_text(program, &job(load, kind, count)), "{name}");
+        assert_eq!(plain(count), program_text(program, &states::job(load, kind, count, 1, states::edit_before(kind, sheet))), "{name}");
     }
     nanoseconds_of(|count| {
         shortest(|| {
@@ -209,14 +204,17 @@ fn plain_time<C: states::Calling>(program: &Path, load: &[u8], sheet: states::Sh
 fn state_row(program: &Path, load: &[u8], sheet: states::Sheet, kind: (u8, &str)) {
     let apart = plain_time::<states::Apart>(program, load, sheet, kind);
     let free = plain_time::<states::Free>(program, load, sheet, kind);
-    let own = nanoseconds_of(|count| program_time(program, &job(load, kind.0, count)));
+    let edit = states::edit_before(kind.0, sheet);
+    let own = nanoseconds_of(|count| program_time(program, &states::job(load, kind.0, count, 1, edit)));
     println!("| {} | {apart:.0} | {free:.0} | {own:.0} | {:.1} | {:.1} |", kind.1, own / apart, own / free);
 }
 
 /// Calls on a sheet and on a workspace, each kind that state_bench has.
 fn states_table(root: &Path, load: &[u8], sheet: states::Sheet) {
     let program = root.join("target/bin/state_bench");
-    assert_eq!(states::listed_turned(sheet), listed_behind(&[Edit::Orient(states::TURN as u8)]));
+    for edit in states::KINDS.map(|(kind, _)| states::edit_before(kind, sheet)) {
+        assert_eq!(states::listed_behind(sheet, edit), listed_behind(&[edit]));
+    }
     let [small, large] = states::sizes();
     println!("| call, the state handed on by value | plain Rust, calls apart, ns | plain Rust, calls as the compiler likes, ns | here, ns | times the first | times the second |");
     println!("|---|---|---|---|---|---|");

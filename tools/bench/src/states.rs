@@ -3,12 +3,13 @@
 
 use std::hint::black_box;
 
-use crate::edits::{self, Edit, Head};
+use crate::edits::{self, Edit, Head, TURN};
 
 /// What state_bench does once for each of its kinds, and how it is told. A state that comes later has its kinds here and in `plain`.
-pub const KINDS: [(u8, &str); 8] = [
+pub const KINDS: [(u8, &str); 9] = [
     (1, "a turn and a back, on a sheet"),
     (2, "a turn and a back, on a workspace"),
+    (9, "a cut and a back, on a sheet behind a cut"),
     (7, "a refused orientation, on a sheet"),
     (8, "a refused orientation, on a workspace"),
     (4, "a keep, on a workspace with eight names"),
@@ -17,8 +18,11 @@ pub const KINDS: [(u8, &str); 8] = [
     (6, "a list of 39 points behind a turn, on a workspace"),
 ];
 
-/// The orientation that is a turn.
-pub const TURN: u32 = 6;
+/// The edit that stands before each job of a kind.
+pub fn edit_before(kind: u8, sheet: Sheet) -> Edit {
+    let [width, height] = sheet.frame;
+    if kind == 9 { Edit::Cut { left: 0, top: 0, width, height } } else { TURN }
+}
 
 /// The points of a load, and the edits that stand, five words each.
 #[derive(Clone, Copy)]
@@ -57,7 +61,7 @@ impl Sheet {
         self.loaded && self.count <= 39 && self.primary < self.count && self.standing <= 64
     }
 
-    fn orient(mut self, number: u32) -> (u32, Sheet) {
+    fn orient(self, number: u32) -> (u32, Sheet) {
         if !self.is_usable() {
             return (7, self);
         }
@@ -67,10 +71,43 @@ impl Sheet {
         if !(1..=8).contains(&number) {
             return (15, self);
         }
+        (0, self.with([number, 0, 0, 0, 0]))
+    }
+
+    fn cut(self, left: u32, top: u32, width: u32, height: u32) -> (u32, Sheet) {
+        if !self.is_usable() {
+            return (7, self);
+        }
+        if self.standing == 64 {
+            return (8, self);
+        }
+        let primary = edits::carried(self.frame, self.points[self.primary], self.standing());
+        let inside = |start: u32, side: u32, limit: u32| side != 0 && u64::from(start) + u64::from(side) <= u64::from(limit);
+        if !(inside(left, width, primary.frame[0]) && inside(top, height, primary.frame[1])) {
+            return (9, self);
+        }
+        if !(Edit::Cut { left, top, width, height }).moved(primary).listed {
+            return (10, self);
+        }
+        (0, self.with([0, left, top, width, height]))
+    }
+
+    fn edited(self, edit: Edit) -> (u32, Sheet) {
+        match edit {
+            Edit::Orient(orientation) => self.orient(orientation as u32 + 1),
+            Edit::Cut { left, top, width, height } => self.cut(left, top, width, height),
+        }
+    }
+
+    fn with(mut self, words: [u32; 5]) -> Sheet {
         let at = 5 * self.standing;
-        self.edits[at..at + 5].copy_from_slice(&[number, 0, 0, 0, 0]);
+        self.edits[at..at + 5].copy_from_slice(&words);
         self.standing += 1;
-        (0, self)
+        self
+    }
+
+    fn standing(&self) -> impl Iterator<Item = Edit> + Clone {
+        self.edits.chunks_exact(5).take(self.standing).map(Edit::of)
     }
 
     fn back(mut self) -> (u32, Sheet) {
@@ -89,8 +126,7 @@ impl Sheet {
         if !self.is_usable() {
             return Err(7);
         }
-        let edits = self.edits.chunks_exact(5).take(self.standing).map(Edit::of);
-        let head = edits::list(self.frame, &self.points[..self.count], self.primary, edits, out)?;
+        let head = edits::list(self.frame, &self.points[..self.count], self.primary, self.standing(), out)?;
         Ok((head, [self.mode, self.origin]))
     }
 }
@@ -225,16 +261,17 @@ fn both<C: Calling, State>(state: State, first: impl Fn(State) -> (u32, State), 
 
 /// What state_bench prints for a job, by the plain states. `out` is where lists go.
 pub fn plain<C: Calling>(sheet: Sheet, kind: u8, count: u32, out: &mut [u32]) -> String {
-    let sheet = sheet.orient(TURN).1;
+    let edit = edit_before(kind, sheet);
+    let sheet = sheet.edited(edit).1;
     let workspace = (0..8).fold(Workspace::new(sheet), |workspace, place| workspace.keep(&name_at(place)).1);
     let name = name_at(7);
     let on_sheet = |(last, sheet): (_, Sheet)| (last, sheet.standing);
     let on_workspace = |(last, workspace): (_, Workspace)| (last, workspace.sheet.standing);
     let keep = |workspace: Workspace| workspace.keep(black_box(&name));
     let (last, standing) = match kind {
-        1 => on_sheet(over(sheet, count, |sheet| both::<C, _>(sheet, |sheet| sheet.orient(black_box(TURN)), Sheet::back))),
+        1 => on_sheet(over(sheet, count, |sheet| both::<C, _>(sheet, |sheet| sheet.orient(black_box(6)), Sheet::back))),
         2 => on_workspace(over(workspace, count, |workspace| {
-            both::<C, _>(workspace, |workspace| workspace.orient(black_box(TURN)), Workspace::back)
+            both::<C, _>(workspace, |workspace| workspace.orient(black_box(6)), Workspace::back)
         })),
         3 => on_workspace(over(workspace, count, |workspace| {
             both::<C, _>(workspace, keep, |workspace| workspace.return_to(black_box(&name)))
@@ -246,6 +283,7 @@ pub fn plain<C: Calling>(sheet: Sheet, kind: u8, count: u32, out: &mut [u32]) ->
         })),
         7 => on_sheet(over(sheet, count, |sheet| C::call(sheet, |sheet| sheet.orient(black_box(0))))),
         8 => on_workspace(over(workspace, count, |workspace| C::call(workspace, |workspace| workspace.orient(black_box(0))))),
+        9 => on_sheet(over(sheet, count, |sheet| both::<C, _>(sheet, |sheet| sheet.edited(black_box(edit)), Sheet::back))),
         _ => panic!("no kind {kind}"),
     };
     let answer = match last {
@@ -256,10 +294,10 @@ pub fn plain<C: Calling>(sheet: Sheet, kind: u8, count: u32, out: &mut [u32]) ->
     format!("kind {kind}, times {count}: {answer}, standing {standing}\n")
 }
 
-/// What the sheet lists behind a turn.
-pub fn listed_turned(sheet: Sheet) -> (Head, Vec<u32>) {
+/// What the sheet lists behind an edit.
+pub fn listed_behind(sheet: Sheet, edit: Edit) -> (Head, Vec<u32>) {
     let mut out = vec![0; 6 * sheet.count];
-    let (head, _) = sheet.orient(TURN).1.list(&mut out).unwrap();
+    let (head, _) = sheet.edited(edit).1.list(&mut out).unwrap();
     (head, out)
 }
 

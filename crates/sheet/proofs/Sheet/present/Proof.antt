@@ -11,16 +11,16 @@ use Rattle.sheet.proofs.Sheet.present.Statement.{statement}
 use Rattle.sheet.proofs.Sheet.present.Tie as tie
 
 abbrev Inv-loop : tie.InvT-loop
-Inv-loop from to self frame n at primary₀ points₀ count₀ index₀ i₀ primary points count index i = (from ≤ i) × (i ≤ to) × Row self from i count points × Seen self from i primary index
+Inv-loop from to self frame standing at primary₀ points₀ count₀ index₀ i₀ primary points count index i = (from ≤ i) × (i ≤ to) × Row self from i count points × Seen self from i primary index
 
 abbrev μ-loop : tie.MeasureT-loop
-μ-loop from to self frame n at primary₀ points₀ count₀ index₀ i₀ primary points count index i = to - i
+μ-loop from to self frame standing at primary₀ points₀ count₀ index₀ i₀ primary points count index i = to - i
 
-mul-first : tie.Need-mul-first Inv-loop μ-loop
-mul-first c = omega (arith, c .before .pre)
+mul-loaded : tie.Need-mul-loaded Inv-loop μ-loop
+mul-loaded c = omega (arith, c .before .pre)
 
-element-copy-out-first : tie.Need-element-copy-out-first Inv-loop μ-loop
-element-copy-out-first c = omega (arith, c .before .pre)
+element-copy-out-loaded : tie.Need-element-copy-out-loaded Inv-loop μ-loop
+element-copy-out-loaded c = omega (arith, c .before .pre)
 
 no-places-requires : tie.Need-no-places-requires Inv-loop μ-loop
 no-places-requires c κs = search needs
@@ -65,18 +65,17 @@ loop-again : tie.Need-loop-again Inv-loop μ-loop
 loop-again c =
     let h = c .before .before .before .before .before .before .before .before .before .before .before .pre in
     let u = c .before .before .before .before .before .before .before .loop .inv in
-    let e = c .before .before .place-after .ensures in
-    (
+    let e = c .before .before .place-after .ensures in (
       omega arith,
       omega arith,
       ⊎-elim
-      (λ w. one-in _ _ _ _ _ (omega (arith, h)) (u .2) (u .0) _ (h .3) e _ _ (w .0 .taken) (w .3) (w .2))
-      (λ w. none-in _ _ _ _ _ (omega (arith, h)) (u .2) (u .0) _ (h .3) e _ _ (w .0 .left) (w .2) (w .1))
-      (c .if2 .came),
+          (λ w. one-in _ _ _ _ _ (omega (arith, h)) (u .2) (u .0) _ (h .3) e _ _ (w .0 .taken) (w .3) (w .2))
+          (λ w. none-in _ _ _ _ _ (omega (arith, h)) (u .2) (u .0) _ (h .3) e _ _ (w .0 .left) (w .2) (w .1))
+          (c .if2 .came),
       ⊎-elim
-      (λ w. seen-now _ _ _ _ _ _ (u .2 .0) (w .0 .taken) _ (h .3) e (w .1) (w .2))
-      (λ w. seen-before _ _ _ _ _ (w .0 .left) _ _ (u .3) (w .1) (w .2))
-      (c .before .if1 .came),
+          (λ w. seen-now _ _ _ _ _ _ (u .2 .0) (w .0 .taken) _ (h .3) e (w .1) (w .2))
+          (λ w. seen-before _ _ _ _ _ (w .0 .left) _ _ (u .3) (w .1) (w .2))
+          (c .before .if1 .came),
     )
 
 returns : tie.Need-returns Inv-loop μ-loop
@@ -90,8 +89,8 @@ present-spec =
     (tie.spec
     Inv-loop
     μ-loop
-    mul-first
-    element-copy-out-first
+    mul-loaded
+    element-copy-out-loaded
     no-places-requires
     loop-holds
     mul-p
