@@ -24,7 +24,7 @@ use Rattle.sheet.specs.Orientation.{framed, mirrored, Steps, turns, mirr
 use Rattle.sheet.specs.Place.{cutPoint, moved, editAt, walked, placed}
 use Rattle.sheet.specs.WalkLaws.{FromTheFront, WalkedOn, OneFrame, NumberAndFocusKept}
 use Rattle.sheet.specs.Sheet.{placedAt}
-use Rattle.sheet.specs.Inside.{carried, carriedOf}
+use Rattle.sheet.specs.Inside.{carriedBy, carriedOf}
 
 -- ---- from the front
 pub walked-on : WalkedOn
@@ -86,28 +86,29 @@ one-frame f p q ws (suc n) = moved-frame (editAt ws n) (placed f p ws n) (placed
 -- ---- what the code ensures
 -- an edit's place with the number and the in-focus of before: nothing else has to be carried along
 moved-parts : (e : Edit) (q : Carried)
-    → carried (moved e q .listed) (q .point .number) (moved e q .point .center) (moved e q .point .size) (q .point .«in_focus») (moved e q .frame)
+    → carriedBy (moved e q .listed) (q .point .number) (moved e q .point .center) (moved e q .point .size) (q .point .«in_focus») (moved e q .frame)
     ≡ moved e q
 moved-parts e q =
     let r = moved e q in
     let k = moved-keeps e q in
-    sym (ap₂ (λ (n : ℕ) (g : InFocus). carried (r .listed) n (r .point .center) (r .point .size) g (r .frame)) (k .0) (k .1))
+    sym (ap₂ (λ (n : ℕ) (g : InFocus). carriedBy (r .listed) n (r .point .center) (r .point .size) g (r .frame)) (k .0) (k .1))
 
 -- `walk`, where no edit is left and where one is
 module _ (ws : List ℕ) (i : ℕ) (b : Bool) (k : ℕ) (c : Point) (a : Size) (g : InFocus) (f : Size) where
   pub walk-ends : (n : ℕ) → n ≡ 0
-      → carriedOf b k g (c .x ∷ c .y ∷ a .width ∷ a .height ∷ f .width ∷ f .height ∷ []) ≡ walked ws i n (carried b k c a g f)
+      → carriedOf b k g (c .x ∷ c .y ∷ a .width ∷ a .height ∷ f .width ∷ f .height ∷ []) ≡ walked ws i n (carriedBy b k c a g f)
   unfolding walked
   walk-ends n e = rw e
 
-  pub walk-goes-on : (n : ℕ) → (n ≡ 0 → ⊥) → (e : Edit) → e ≡ editAt ws i → (q : Carried) → q ≡ moved e (carried b k c a g f)
-      → (r : Carried) → r ≡ walked ws (i + 1) (n - 1) (carried (q .listed) k (q .point .center) (q .point .size) g (q .frame))
-      → r ≡ walked ws i n (carried b k c a g f)
+  pub walk-goes-on : (n : ℕ) → (n ≡ 0 → ⊥) → (p : Carried) → p ≡ carriedBy b k c a g f → (e : Edit) → e ≡ editAt ws i
+      → (q : Carried) → q ≡ moved e p
+      → (r : Carried) → r ≡ walked ws (i + 1) (n - 1) (carriedBy (q .listed) k (q .point .center) (q .point .size) g (q .frame))
+      → r ≡ walked ws i n (carriedBy b k c a g f)
   unfolding walked
-  walk-goes-on zero z e d q m r h = absurd (z refl)
-  walk-goes-on (suc n) z e d q m r h =
-      let s : carried (q .listed) k (q .point .center) (q .point .size) g (q .frame) ≡ moved (editAt ws i) (carried b k c a g f) =
-      rw (m, d) (moved-parts (editAt ws i) (carried b k c a g f)) in
+  walk-goes-on zero z p v e d q m r h = absurd (z refl)
+  walk-goes-on (suc n) z p v e d q m r h =
+      let s : carriedBy (q .listed) k (q .point .center) (q .point .size) g (q .frame) ≡ moved (editAt ws i) (carriedBy b k c a g f) =
+      rw (m, d, v) (moved-parts (editAt ws i) (carriedBy b k c a g f)) in
       h ∙ rw (s, add-one i, sub-one (suc n))
 
 -- `place_after`: a walk from the first edit on, through as many as the words hold

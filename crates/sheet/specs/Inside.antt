@@ -42,8 +42,8 @@ abbrev pub placedAcross : ℕ → ℕ → Framed → Framed
 placedAcross x y q = framed (swapped (q .frame)) (movedTo (q .point) (point x y) (swapped (q .point .size)))
 
 -- a point that is carried, by its parts
-abbrev pub carried : Bool → ℕ → Point → Size → InFocus → Size → Carried
-carried b n c a g f =
+abbrev pub carriedBy : Bool → ℕ → Point → Size → InFocus → Size → Carried
+carriedBy b n c a g f =
     record {
       listed = b;
       point = record { number = n; center = c; size = a; «in_focus» = g };
@@ -52,4 +52,4 @@ carried b n c a g f =
 
 -- and of six numbers: center, area and frame, each across and then down
 abbrev pub carriedOf : Bool → ℕ → InFocus → List ℕ → Carried
-carriedOf b n g e = carried b n (point (getD e 0 0) (getD e 1 0)) (by (getD e 2 0) (getD e 3 0)) g (by (getD e 4 0) (getD e 5 0))
+carriedOf b n g e = carriedBy b n (point (getD e 0 0) (getD e 1 0)) (by (getD e 2 0) (getD e 3 0)) g (by (getD e 4 0) (getD e 5 0))

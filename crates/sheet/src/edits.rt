@@ -13,7 +13,7 @@ ghost use lib.Dec.{leb};
 ghost use Rattle.reading.specs.Outcome.{numberOf};
 ghost use Rattle.sheet.specs.Answer.{editMeans};
 ghost use Rattle.sheet.specs.Place.{shiftedPoint, staysOn, cutPoint, moved, wordsOf, editAt, placed, walked, isGoodCut};
-ghost use Rattle.sheet.specs.Inside.{carried, carriedOf};
+ghost use Rattle.sheet.specs.Inside.{carriedBy, carriedOf};
 
 // One of the eight orientations, or a cut to a rectangle.
 pub enum Edit {
@@ -194,6 +194,30 @@ fn edit_at(words: &[u32; 320], i: usize) -> Edit
     }
 }
 
+// A point that is carried, of its parts.
+fn carried_by(
+    listed: bool,
+    number: u32,
+    center: Point,
+    size: Size,
+    in_focus: InFocus,
+    frame: Size,
+) -> Carried
+    ensures { λ r. ⌜ r ≡ carriedBy listed number center size in_focus frame ⌝ }
+{
+    let point = FocusPoint {
+        number,
+        center,
+        size,
+        in_focus,
+    };
+    Carried {
+        listed,
+        point,
+        frame,
+    }
+}
+
 // The point and frame that a walk ends with, of six numbers: center, area and frame, each across and then down.
 fn carried_of(listed: bool, number: u32, in_focus: InFocus, end: [u32; 6]) -> Carried
     ensures { λ r. ⌜ r ≡ carriedOf listed number in_focus end ⌝ }
@@ -210,17 +234,7 @@ fn carried_of(listed: bool, number: u32, in_focus: InFocus, end: [u32; 6]) -> Ca
         width: end[4],
         height: end[5],
     };
-    let point = FocusPoint {
-        number,
-        center,
-        size,
-        in_focus,
-    };
-    Carried {
-        listed,
-        point,
-        frame,
-    }
+    carried_by(listed, number, center, size, in_focus, frame)
 }
 
 // Carries a point and its frame through n edits, from the one at index i on: through that edit, and then, from where it leaves them,
@@ -240,7 +254,7 @@ fn walk(
     end: &mut [u32; 6],
 ) -> bool
     requires { ⌜ i + n ≤ 64 ⌝ }
-    ensures { λ r. ⌜ carriedOf r number in_focus (now (end .exit)) ≡ walked (now (words .entry)) i n (carried listed number center size in_focus frame) ⌝ }
+    ensures { λ r. ⌜ carriedOf r number in_focus (now (end .exit)) ≡ walked (now (words .entry)) i n (carriedBy listed number center size in_focus frame) ⌝ }
 {
     if n == 0 {
         *end = [
@@ -253,17 +267,7 @@ fn walk(
         ];
         return listed;
     }
-    let point = FocusPoint {
-        number,
-        center,
-        size,
-        in_focus,
-    };
-    let place = Carried {
-        listed,
-        point,
-        frame,
-    };
+    let place = carried_by(listed, number, center, size, in_focus, frame);
     let next = move_by(edit_at(words, i), place);
     let to = next.point;
     let center = to.center;

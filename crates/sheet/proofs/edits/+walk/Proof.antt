@@ -8,6 +8,7 @@ use borrow.Fn.PlainCycle.{Measures, is, falls, and}
 use Rattle.sheet.proofs.edits.walk.Reads as walk
 use Rattle.sheet.proofs.edits.walk.Kinds as walk-kinds
 use Rattle.sheet.proofs.edits.+walk.Lts-walk as walk-lts
+use Rattle.sheet.proofs.edits.carried_by.Reads as carried-by-reads
 use Rattle.sheet.proofs.edits.edit_at.Reads as edit-at-reads
 use Rattle.sheet.proofs.edits.move_by.Reads as move-by-reads
 use Rattle.sheet.proofs.edits.+walk.{statement}
@@ -25,6 +26,8 @@ walk-below t = and 2 walk-kinds.ps (falls 2 walk-kinds.ps _<_ μ-walk t) walk.Pr
 -- what is known of the calls
 abbrev claims : ℕ → walk-lts.Claims
 claims t = (
+  carried-by-reads.Asked,
+  carried-by-reads.Learnt,
   edit-at-reads.Asked,
   edit-at-reads.Learnt,
   move-by-reads.Asked,
@@ -35,6 +38,9 @@ claims t = (
 
 walk-returns : (t : ℕ) → walk-lts.Need-returns (claims t) (walk-at t) walk.Post
 walk-returns t c = walk-ends _ _ _ _ _ _ _ _ _ (c .before .if1 .taken)
+
+walk-carried-by-requires : (t : ℕ) → walk-lts.Need-carried-by-requires (claims t) (walk-at t) walk.Post
+walk-carried-by-requires t c κs = search needs
 
 walk-edit-at-requires : (t : ℕ) → walk-lts.Need-edit-at-requires (claims t) (walk-at t) walk.Post
 walk-edit-at-requires t c κs = omega arith
@@ -53,8 +59,7 @@ walk-walk-requires t c κs = (omega arith, omega arith)
 
 walk-returns-2 : (t : ℕ) → walk-lts.Need-returns-2 (claims t) (walk-at t) walk.Post
 walk-returns-2 t c =
-    walk-goes-on _ _ _ _ _ _ _ _ _ (c .before .before .before .before .before .before .before .before .if1 .left) _
-    (c .before .before .before .before .before .before .before .edit-at .ensures) _
+    walk-goes-on _ _ _ _ _ _ _ _ _ (c .before .before .before .before .before .before .before .before .before .if1 .left) _ (c .before .before .before .before .before .before .before .before .carried-by .ensures) _ (c .before .before .before .before .before .before .before .edit-at .ensures) _
     (c .before .before .before .before .before .before .move-by .ensures) _ (c .walk .ensures)
 
 pub +walk-spec : {M : Type 1} → statement M
@@ -62,6 +67,7 @@ pub +walk-spec : {M : Type 1} → statement M
     (walk-at t)
     walk.Post
     (walk-returns t)
+    (walk-carried-by-requires t)
     (walk-edit-at-requires t)
     (walk-move-by-requires t)
     (walk-add-walk t)
