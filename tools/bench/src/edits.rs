@@ -46,14 +46,6 @@ pub struct Head {
 }
 
 impl Edit {
-    /// The edit of five words: an orientation's number, or 0 and a cut's four numbers.
-    pub fn of(words: &[u32]) -> Edit {
-        match *words {
-            [0, left, top, width, height] => Edit::Cut { left, top, width, height },
-            _ => Edit::Orient(ORIENTATIONS[words[0] as usize - 1]),
-        }
-    }
-
     /// The call that makes it, in bytes.
     pub fn call(self) -> Vec<u8> {
         match self {

@@ -3,7 +3,7 @@
 
 use std::hint::black_box;
 
-use crate::edits::{self, Edit, Head, TURN};
+use crate::edits::{self, Edit, Head, ORIENTATIONS, TURN};
 
 /// What state_bench does once for each of its kinds, and how it is told. A state that comes later has its kinds here and in `plain`.
 pub const KINDS: [(u8, &str); 9] = [
@@ -24,7 +24,7 @@ pub fn edit_before(kind: u8, sheet: Sheet) -> Edit {
     if kind == 9 { Edit::Cut { left: 0, top: 0, width, height } } else { TURN }
 }
 
-/// The points of a load, and the edits that stand, five words each.
+/// The points of a load, and the edits that stand.
 #[derive(Clone, Copy)]
 pub struct Sheet {
     loaded: bool,
@@ -34,7 +34,7 @@ pub struct Sheet {
     pub primary: usize,
     mode: u32,
     origin: u32,
-    edits: [u32; 320],
+    edits: [Edit; 64],
     standing: usize,
 }
 
@@ -52,7 +52,7 @@ impl Sheet {
             primary: primary as usize,
             mode,
             origin,
-            edits: [0; 320],
+            edits: [TURN; 64],
             standing: 0,
         }
     }
@@ -68,10 +68,10 @@ impl Sheet {
         if self.standing == 64 {
             return (8, self);
         }
-        if !(1..=8).contains(&number) {
+        let Some(&orientation) = ORIENTATIONS.get((number as usize).wrapping_sub(1)) else {
             return (15, self);
-        }
-        (0, self.with([number, 0, 0, 0, 0]))
+        };
+        (0, self.with(Edit::Orient(orientation)))
     }
 
     fn cut(self, left: u32, top: u32, width: u32, height: u32) -> (u32, Sheet) {
@@ -86,10 +86,11 @@ impl Sheet {
         if !(inside(left, width, primary.frame[0]) && inside(top, height, primary.frame[1])) {
             return (9, self);
         }
-        if !(Edit::Cut { left, top, width, height }).moved(primary).listed {
+        let edit = Edit::Cut { left, top, width, height };
+        if !edit.moved(primary).listed {
             return (10, self);
         }
-        (0, self.with([0, left, top, width, height]))
+        (0, self.with(edit))
     }
 
     fn edited(self, edit: Edit) -> (u32, Sheet) {
@@ -99,15 +100,14 @@ impl Sheet {
         }
     }
 
-    fn with(mut self, words: [u32; 5]) -> Sheet {
-        let at = 5 * self.standing;
-        self.edits[at..at + 5].copy_from_slice(&words);
+    fn with(mut self, edit: Edit) -> Sheet {
+        self.edits[self.standing] = edit;
         self.standing += 1;
         self
     }
 
     fn standing(&self) -> impl Iterator<Item = Edit> + Clone {
-        self.edits.chunks_exact(5).take(self.standing).map(Edit::of)
+        self.edits[..self.standing].iter().copied()
     }
 
     fn back(mut self) -> (u32, Sheet) {
@@ -135,7 +135,7 @@ impl Sheet {
 struct Checkpoint {
     name: [u8; 16],
     len: usize,
-    edits: [u32; 320],
+    edits: [Edit; 64],
     standing: usize,
 }
 
@@ -149,7 +149,7 @@ struct Workspace {
 
 impl Workspace {
     fn new(sheet: Sheet) -> Workspace {
-        Workspace { sheet, checkpoints: [Checkpoint { name: [0; 16], len: 0, edits: [0; 320], standing: 0 }; 8], count: 0 }
+        Workspace { sheet, checkpoints: [Checkpoint { name: [0; 16], len: 0, edits: [TURN; 64], standing: 0 }; 8], count: 0 }
     }
 
     fn place_of(&self, name: &[u8]) -> Option<usize> {
