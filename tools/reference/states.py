@@ -3,7 +3,7 @@
 states.py --check    say whether the files are what would be written
 
 Writes the jobs of the program state_bench, stdin of that crate, each kind of it
-some times over, behind one turn and, kinds 5, 6 and 9, behind none, 32 and 64
+some times over, behind one turn and, kinds 1, 5 and 6, behind none, 32 and 64
 equal edits; and what it must print, its stdout: what the book of reference.py
 answers to the last of the same calls, and how many edits then stand. The times
 themselves are taken by tools/bench.
@@ -29,9 +29,9 @@ EQUAL = {
     "a cut of the whole frame": calls.cut(0, 0, *reference.WHOLE_FRAME),
 }
 
-# What each kind does once. Kinds 1 and 2, 5 and 6, 7 and 8 are of a sheet and of a workspace. Kind 9 makes the job's own edit.
+# What each kind does once; None is the job's edit. Kinds 1 and 2, 5 and 6, 7 and 8 are of a sheet and of a workspace.
 KINDS = {
-    1: [TURN, calls.BACK],
+    1: [None, calls.BACK],
     2: [TURN, calls.BACK],
     3: [calls.keep(NAMES[7]), calls.return_to(NAMES[7])],
     4: [calls.keep(NAMES[7])],
@@ -39,7 +39,6 @@ KINDS = {
     6: [LIST],
     7: [calls.orient(0)],
     8: [calls.orient(0)],
-    9: [None, calls.BACK],
 }
 
 
@@ -64,7 +63,7 @@ def printed(kind, count, standing, edit):
 def files():
     """The files, as (path, bytes)."""
     jobs = [(kind, count, 1, TURN) for kind in KINDS for count in (0, 1, 65)]
-    jobs += [(kind, 2, standing, edit) for kind in (5, 6, 9) for edit in EQUAL.values() for standing in (0, 32, 64)]
+    jobs += [(kind, 2, standing, edit) for kind in (1, 5, 6) for edit in EQUAL.values() for standing in (0, 32, 64)]
     records = [calls.load(*LOAD).ljust(stored.RECORD, b"\0"), *(job(*each) for each in jobs), job(0, 1, 0, b"")]
     yield "crates/state_bench/stdin", b"".join(records)
     yield "crates/state_bench/stdout", ("".join(printed(*each) for each in jobs) + "kind 0, times 1: no such kind\n").encode()

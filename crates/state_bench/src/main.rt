@@ -2,12 +2,12 @@
 // bytes of standard input are a load as workspace_test reads it (its sizes are not looked at), every 512 after them a job: its kind
 // in a byte, how many times in 32 bits, how many edits in a byte, an edit as workspace_test reads it (9 and the orientation's number
 // in a byte, or 2 and the cut's four 32-bit numbers), and zeros; numbers are big-endian. Each job starts from the load, with so many
-// of that edit standing, and on a workspace with eight names kept, of 16 bytes each, that differ in the last. Kinds: 1 a turn
-// (orientation 6) and a back on a sheet, 2 on a workspace. 3 a keep and a return on a workspace, under the name at the last of the
-// eight places; 4 the keep alone. 5 a list on a sheet, 6 on a workspace, into 240 places. 7 an orientation of number 0, which is
-// refused and changes nothing, on a sheet, 8 on a workspace: what is left is handing the state on. 9 the job's edit once more and a
-// back, on a sheet. Prints for each job the kind, how many times, the last answer (`ok`, `no N`, or `none` without a call), and how
-// many edits stand at the end. No contract can say what is printed: that is held to `stdout`.
+// of that edit standing, and on a workspace with eight names kept, of 16 bytes each, that differ in the last. Kinds: 1 that edit once
+// more and a back, on a sheet; 2 a turn (orientation 6) and a back, on a workspace. 3 a keep and a return on a workspace, under the
+// name at the last of the eight places; 4 the keep alone. 5 a list on a sheet, 6 on a workspace, into 240 places. 7 an orientation of
+// number 0, which is refused and changes nothing, on a sheet, 8 on a workspace: what is left is handing the state on. Prints for each
+// job the kind, how many times, the last answer (`ok`, `no N`, or `none` without a call), and how many edits stand at the end. No
+// contract can say what is printed: that is held to `stdout`.
 use libc::STDIN_FILENO;
 use libc::STDOUT_FILENO;
 use numbers::io::ByteOrder;
@@ -114,22 +114,6 @@ fn workspace_of(load: &[u8], job: &[u8]) -> Workspace {
         place += 1;
     }
     w
-}
-
-fn turns_on_sheet(sheet: Sheet, count: u32) {
-    let mut s = sheet;
-    let mut last = NO_CALL;
-    let mut left = count;
-    while left > 0 {
-        let turned = s.orient(TURN);
-        let between = turned.sheet;
-        let r = between.back();
-        let answer = r.answer;
-        last = sheet::edits::edit_number(answer);
-        s = r.sheet;
-        left -= 1;
-    }
-    print_end(last, s.standing);
 }
 
 fn edits_on_sheet(sheet: Sheet, job: &[u8], count: u32) {
@@ -263,7 +247,7 @@ fn run(load: &[u8], job: &[u8]) {
     number(b"kind ", kind as u64);
     number(b", times ", count as u64);
     match kind {
-        1 => turns_on_sheet(sheet_of(load, job), count),
+        1 => edits_on_sheet(sheet_of(load, job), job, count),
         2 => turns_on_workspace(workspace_of(load, job), count),
         3 => keeps_and_returns(workspace_of(load, job), &name, count),
         4 => keeps(workspace_of(load, job), &name, count),
@@ -271,7 +255,6 @@ fn run(load: &[u8], job: &[u8]) {
         6 => lists(load, job, kind, count),
         7 => refusals_on_sheet(sheet_of(load, job), count),
         8 => refusals_on_workspace(workspace_of(load, job), count),
-        9 => edits_on_sheet(sheet_of(load, job), job, count),
         _ => text(b": no such kind\n"),
     }
 }

@@ -147,11 +147,10 @@ fn plain_list_time(sheet: states::Sheet, edits: &[Edit]) -> f64 {
 /// Lists behind equal edits: by the plain loop, by state_bench on a sheet, and by a line of focusdesk.
 fn lists_table(root: &Path, load: &[u8], sheet: states::Sheet) {
     let [focusdesk, state_bench] = ["focusdesk", "state_bench"].map(|name| root.join("target/bin").join(name));
-    let [width, height] = sheet.frame;
     let kinds = [
-        ("orientation 6", Edit::Orient(Orientation::Rotate90)),
+        ("orientation 6", sheet.turn_or_cut(false)),
         ("orientation 2", Edit::Orient(Orientation::FlipHorizontal)),
-        ("a cut of the whole frame", Edit::Cut { left: 0, top: 0, width, height }),
+        ("a cut of the whole frame", sheet.turn_or_cut(true)),
     ];
     println!("| edits that stand | a plain loop in Rust, µs | a list on a sheet, µs | times as long | a list line by focusdesk, µs |");
     println!("|---|---|---|---|---|");
@@ -188,10 +187,10 @@ fn nanoseconds_of(time: impl Fn(u32) -> Duration) -> f64 {
 }
 
 /// Nanoseconds for one call of a kind by the plain states, which must end as the program does before their time means anything.
-fn plain_time<C: states::Calling>(program: &Path, load: &[u8], sheet: states::Sheet, (kind, name): (u8, &str)) -> f64 {
-    let plain = |count| states::plain::<C>(sheet, kind, count, &mut [0; focuspoints::LISTING]);
+fn plain_time<C: states::Calling>(program: &Path, load: &[u8], sheet: states::Sheet, kind: u8, edit: Edit) -> f64 {
+    let plain = |count| states::plain::<C>(sheet, kind, edit, count, &mut [0; focuspoints::LISTING]);
     for count in [1, 65] {
-        assert_eq!(plain(count), program_text(program, &states::job(load, kind, count, 1, states::edit_before(kind, sheet))), "{name}");
+        assert_eq!(plain(count), program_text(program, &states::job(load, kind, count, 1, edit)));
     }
     nanoseconds_of(|count| {
         shortest(|| {
@@ -200,21 +199,19 @@ fn plain_time<C: states::Calling>(program: &Path, load: &[u8], sheet: states::Sh
     })
 }
 
-/// One kind of calls on a state.
-fn state_row(program: &Path, load: &[u8], sheet: states::Sheet, kind: (u8, &str)) {
-    let apart = plain_time::<states::Apart>(program, load, sheet, kind);
-    let free = plain_time::<states::Free>(program, load, sheet, kind);
-    let edit = states::edit_before(kind.0, sheet);
-    let own = nanoseconds_of(|count| program_time(program, &states::job(load, kind.0, count, 1, edit)));
-    println!("| {} | {apart:.0} | {free:.0} | {own:.0} | {:.1} | {:.1} |", kind.1, own / apart, own / free);
+/// One kind of calls on a state. Both sides must list the same behind the edit that stands before.
+fn state_row(program: &Path, load: &[u8], sheet: states::Sheet, (kind, name, cut): (u8, &str, bool)) {
+    let edit = sheet.turn_or_cut(cut);
+    assert_eq!(states::listed_behind(sheet, edit), listed_behind(&[edit]), "{name}");
+    let apart = plain_time::<states::Apart>(program, load, sheet, kind, edit);
+    let free = plain_time::<states::Free>(program, load, sheet, kind, edit);
+    let own = nanoseconds_of(|count| program_time(program, &states::job(load, kind, count, 1, edit)));
+    println!("| {name} | {apart:.0} | {free:.0} | {own:.0} | {:.1} | {:.1} |", own / apart, own / free);
 }
 
 /// Calls on a sheet and on a workspace, each kind that state_bench has.
 fn states_table(root: &Path, load: &[u8], sheet: states::Sheet) {
     let program = root.join("target/bin/state_bench");
-    for edit in states::KINDS.map(|(kind, _)| states::edit_before(kind, sheet)) {
-        assert_eq!(states::listed_behind(sheet, edit), listed_behind(&[edit]));
-    }
     let [small, large] = states::sizes();
     println!("| call, the state handed on by value | plain Rust, calls apart, ns | plain Rust, calls as the compiler likes, ns | here, ns | times the first | times the second |");
     println!("|---|---|---|---|---|---|");

@@ -5,24 +5,19 @@ use std::hint::black_box;
 
 use crate::edits::{self, Edit, Head, ORIENTATIONS, TURN};
 
-/// What state_bench does once for each of its kinds, and how it is told. A state that comes later has its kinds here and in `plain`.
-pub const KINDS: [(u8, &str); 9] = [
-    (1, "a turn and a back, on a sheet"),
-    (2, "a turn and a back, on a workspace"),
-    (9, "a cut and a back, on a sheet behind a cut"),
-    (7, "a refused orientation, on a sheet"),
-    (8, "a refused orientation, on a workspace"),
-    (4, "a keep, on a workspace with eight names"),
-    (3, "a keep and a return, on a workspace with eight names"),
-    (5, "a list of 39 points behind a turn, on a sheet"),
-    (6, "a list of 39 points behind a turn, on a workspace"),
+/// What is timed: a kind of state_bench, its name, and whether a cut of the whole frame stands before it and not a turn. A state that comes
+/// later has its kinds here and in `plain`.
+pub const KINDS: [(u8, &str, bool); 9] = [
+    (1, "a turn and a back, on a sheet", false),
+    (2, "a turn and a back, on a workspace", false),
+    (1, "a cut and a back, on a sheet behind a cut", true),
+    (7, "a refused orientation, on a sheet", false),
+    (8, "a refused orientation, on a workspace", false),
+    (4, "a keep, on a workspace with eight names", false),
+    (3, "a keep and a return, on a workspace with eight names", false),
+    (5, "a list of 39 points behind a turn, on a sheet", false),
+    (6, "a list of 39 points behind a turn, on a workspace", false),
 ];
-
-/// The edit that stands before each job of a kind.
-pub fn edit_before(kind: u8, sheet: Sheet) -> Edit {
-    let [width, height] = sheet.frame;
-    if kind == 9 { Edit::Cut { left: 0, top: 0, width, height } } else { TURN }
-}
 
 /// The points of a load, and the edits that stand.
 #[derive(Clone, Copy)]
@@ -55,6 +50,12 @@ impl Sheet {
             edits: [TURN; 64],
             standing: 0,
         }
+    }
+
+    /// A turn, or a cut of the sheet's whole frame.
+    pub fn turn_or_cut(&self, cut: bool) -> Edit {
+        let [width, height] = self.frame;
+        if cut { Edit::Cut { left: 0, top: 0, width, height } } else { TURN }
     }
 
     fn is_usable(&self) -> bool {
@@ -259,9 +260,8 @@ fn both<C: Calling, State>(state: State, first: impl Fn(State) -> (u32, State), 
     C::call(C::call(state, first).1, second)
 }
 
-/// What state_bench prints for a job, by the plain states. `out` is where lists go.
-pub fn plain<C: Calling>(sheet: Sheet, kind: u8, count: u32, out: &mut [u32]) -> String {
-    let edit = edit_before(kind, sheet);
+/// What state_bench prints for a job behind one edit, by the plain states. `out` is where lists go.
+pub fn plain<C: Calling>(sheet: Sheet, kind: u8, edit: Edit, count: u32, out: &mut [u32]) -> String {
     let sheet = sheet.edited(edit).1;
     let workspace = (0..8).fold(Workspace::new(sheet), |workspace, place| workspace.keep(&name_at(place)).1);
     let name = name_at(7);
@@ -269,7 +269,7 @@ pub fn plain<C: Calling>(sheet: Sheet, kind: u8, count: u32, out: &mut [u32]) ->
     let on_workspace = |(last, workspace): (_, Workspace)| (last, workspace.sheet.standing);
     let keep = |workspace: Workspace| workspace.keep(black_box(&name));
     let (last, standing) = match kind {
-        1 => on_sheet(over(sheet, count, |sheet| both::<C, _>(sheet, |sheet| sheet.orient(black_box(6)), Sheet::back))),
+        1 => on_sheet(over(sheet, count, |sheet| both::<C, _>(sheet, |sheet| sheet.edited(black_box(edit)), Sheet::back))),
         2 => on_workspace(over(workspace, count, |workspace| {
             both::<C, _>(workspace, |workspace| workspace.orient(black_box(6)), Workspace::back)
         })),
@@ -283,7 +283,6 @@ pub fn plain<C: Calling>(sheet: Sheet, kind: u8, count: u32, out: &mut [u32]) ->
         })),
         7 => on_sheet(over(sheet, count, |sheet| C::call(sheet, |sheet| sheet.orient(black_box(0))))),
         8 => on_workspace(over(workspace, count, |workspace| C::call(workspace, |workspace| workspace.orient(black_box(0))))),
-        9 => on_sheet(over(sheet, count, |sheet| both::<C, _>(sheet, |sheet| sheet.edited(black_box(edit)), Sheet::back))),
         _ => panic!("no kind {kind}"),
     };
     let answer = match last {
