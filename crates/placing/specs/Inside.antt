@@ -1,4 +1,4 @@
--- What only the code of this crate, and of the sheet above it, needs: no promise in 01's words rests on it.
+-- What only the code of this crate needs: no promise in 01's words rests on it.
 use mathlib.Core.Bool.{Bool, cond}
 use mathlib.Core.List.{List}
 use lib.ListN.{length}

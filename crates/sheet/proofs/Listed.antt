@@ -36,7 +36,7 @@ from-the-first s (suc i) = rw (le-leb 0 i (omega arith), from-the-first s i)
 
 module _ (s : Sheet) (a : ℕ) where
   -- no more are listed than there are
-  pub between-length : (i : ℕ) → length (listedBetween s a i) ≤ i
+  between-length : (i : ℕ) → length (listedBetween s a i) ≤ i
   unfolding listedBetween
   between-length zero = omega arith
   between-length (suc i) =
@@ -60,13 +60,13 @@ module _ (s : Sheet) (a : ℕ) where
   empty-row ps e = let z = none-before a (omega arith) in rw z (refl, e)
 
   module _ (i n : ℕ) (ps : List FocusPoint) (hi : i < 39) (r : Row i n ps) where
-    pub has-room : n ≤ i
-    has-room = omega (arith, r .0, between-length i)
+    pub place-left : n < 39
+    place-left = omega (arith, r .0, between-length i)
 
     module _ (ha : a ≤ i) (q : Carried) (l : s .standing ≤ 64) (e : q ≡ reached s i) (m : ℕ) (qs : List FocusPoint) where
       pub one-in : q .listed ≡ true → m ≡ n + 1 → qs ≡ set ps n (q .point) → Row (i + 1) m qs
       one-in t em eq =
-          let b = has-room in
+          let b = place-left in
           let g : listedBetween s a (i + 1) ≡ listedBetween s a i ++ q .point ∷ [] = listed-more i ha ∙ rw (← as-placed s i q l e, t) in
           rw g (em ∙ rw (length-append, r .0), eq ∙ rw (r .1, r .0) (set-places (listedBetween s a i) (q .point) (omega (arith, r .0))))
 
@@ -92,7 +92,7 @@ module _ (s : Sheet) (a : ℕ) where
     seen-before h q₀ k₀ g eq ek l = let z = g (omega arith) in (eq ∙ z .0, ek ∙ z .1)
 
   pub all-seen : (b i n k : ℕ) (q : Carried) (ps : List FocusPoint) → i ≤ b → b ≤ i → s .primary < b → Row i n ps → Seen i q k
-      → _≡_ {A = Present} (record { primary = q; points = ps; count = n; index = k }) (presentOf s a b)
+      → _≡_ {A = Present} (record { «primary_place» = q; points = ps; count = n; index = k }) (presentOf s a b)
   unfolding presentOf
   all-seen b i n k q ps h₁ h₂ h r g =
       let e : i ≡ b = omega arith in

@@ -7,16 +7,28 @@ use lib.ListN.{length, take}
 use native.Mathlib.Omega.{arith}
 use borrow.Author.Tests.{lt-ltb, le-ltb}
 use Rattle.reading.specs.declared.geometry.Size.{Size}
+use Rattle.sheet.specs.declared.edits.Carried.{Carried}
 use Rattle.sheet.specs.declared.Sheet.{Sheet}
 use Rattle.sheet.specs.declared.listing.ListHead.{ListHead}
 use Rattle.sheet.specs.declared.Present.{Present}
-use Rattle.sheet.specs.Sheet.{presentFrame}
+use Rattle.sheet.specs.Sheet.{placedAt, presentFrame}
 use Rattle.sheet.specs.Lists.{listing, listCount, listIndex, isShort, headIn}
 use Rattle.sheet.specs.Inside.{listedBetween, presentOf}
 use Rattle.sheet.proofs.Usable.{Counts}
 use Rattle.placing.proofs.Places.{take-places}
 use Rattle.sheet.proofs.Listed.{from-the-first, listed-length}
 
+-- of any points
+module _ (s : Sheet) (a b : ℕ) (v : Present) (e : v ≡ presentOf s a b) where
+  pub primary-of : v .«primary_place» ≡ placedAt s (s .primary)
+  unfolding presentOf
+  primary-of = ap (λ (x : Present). x .«primary_place») e
+
+  pub frame-of : v .«primary_place» .frame ≡ presentFrame s
+  unfolding presentFrame
+  frame-of = ap (λ (x : Carried). x .frame) primary-of
+
+-- of all points
 module _ (s : Sheet) (v : Present) (e : v ≡ presentOf s 0 (s .count)) where
   pub count-of : v .count ≡ listCount s
   unfolding presentOf listCount listing
@@ -25,10 +37,6 @@ module _ (s : Sheet) (v : Present) (e : v ≡ presentOf s 0 (s .count)) where
   index-of : v .index ≡ listIndex s
   unfolding presentOf listIndex
   index-of = ap (λ (x : Present). x .index) e ∙ ap length (from-the-first s (s .primary))
-
-  pub frame-of : v .primary .frame ≡ presentFrame s
-  unfolding presentOf presentFrame
-  frame-of = ap (λ (x : Present). x .primary .frame) e
 
   pub points-of : take (v .count) (v .points) ≡ listing s
   unfolding presentOf listing

@@ -1,6 +1,6 @@
--- A walk from the first edit to the last comes to what placed says; number and in-focus stay, and the frame goes by the edits alone. And
--- what `walk` and `place_after` ensure. The idea: a walk from where i edits place the point ends where the last of its edits places it, by
--- the number of edits that are left; what one edit leaves as it is, any number of them does. Assumes nothing.
+-- A walk from the first edit to the last comes to what placed says; number and in-focus stay, and the frame is the same for every point.
+-- And what `walk` and `place_after` ensure. The idea: a walk from where i edits place the point ends where the last of its edits places it,
+-- by the number of edits that are left; what one edit leaves as it is, any number of them does. Assumes nothing.
 use Prim.Native.Nat.{ℕ, zero, suc, _+_, _-_, _≤_, min}
 use mathlib.Core.Bool.{Bool}
 use mathlib.Core.List.{List, [], _∷_}
@@ -13,18 +13,19 @@ use Rattle.reading.specs.declared.focus.InFocus.{InFocus}
 use Rattle.reading.specs.declared.geometry.Point.{Point}
 use Rattle.reading.specs.declared.geometry.Size.{Size}
 use Rattle.placing.specs.declared.focus.FocusPoint.{FocusPoint}
-use Rattle.placing.specs.Fit.{swapped}
 use Rattle.placing.specs.Load.{noPoint}
 use Rattle.sheet.specs.declared.edits.Edit.{Edit}
 use Rattle.sheet.specs.declared.edits.Edit.the-variants.{Orient, Cut}
 use Rattle.sheet.specs.declared.edits.Carried.{Carried}
 use Rattle.sheet.specs.declared.Sheet.{Sheet}
 use Rattle.sheet.specs.declared.orientation.Framed.{Framed}
-use Rattle.sheet.specs.Orientation.{framed, mirrored, Steps, turns, mirrorThen, stepsOf, turnedBy, taken, orientedBy}
+use Rattle.sheet.specs.declared.orientation.Orientation.{Orientation}
+use Rattle.sheet.specs.declared.orientation.Orientation.the-variants.{Normal, FlipHorizontal, Rotate180, FlipVertical, Transpose, Rotate90, Transverse, Rotate270}
+use Rattle.sheet.specs.Orientation.{framed, stepsOf, turnedBy, orientedBy}
 use Rattle.sheet.specs.Place.{cutPoint, moved, editAt, walked, placed}
 use Rattle.sheet.specs.WalkLaws.{FromTheFront, WalkedOn, OneFrame, NumberAndFocusKept}
 use Rattle.sheet.specs.Sheet.{placedAt}
-use Rattle.sheet.specs.Inside.{carriedBy, carriedOf}
+use Rattle.sheet.specs.Inside.{carriedBy, walkEnd}
 
 -- ---- from the front
 pub walked-on : WalkedOn
@@ -37,23 +38,34 @@ walked-on f p ws i (suc n) =
 pub from-the-front : FromTheFront
 from-the-front f p ws n = walked-on f p ws 0 n ∙ ap (placed f p ws) (zero-add n)
 
--- ---- what an edit leaves as it is
+-- ---- what an edit leaves as it is, and what the frame goes by
 abbrev Alike : FocusPoint → FocusPoint → Type 0
 Alike p q = (p .number ≡ q .number) × (p .«in_focus» ≡ q .«in_focus»)
 
-turns-keep : (n : ℕ) (q : Framed) → Alike (turnedBy n q .point) (q .point)
-unfolding turnedBy
-turns-keep zero q = (refl, refl)
-turns-keep (suc n) q = turns-keep n q
+-- of an orientation, each of the eight computed: another point p in the same frame comes to the same frame
+oriented-keeps : (o : Orientation) (q : Framed) (p : FocusPoint)
+    → Alike (orientedBy o q .point) (q .point) × (orientedBy o q .frame ≡ orientedBy o (framed (q .frame) p) .frame)
+unfolding turnedBy stepsOf orientedBy
+oriented-keeps Normal q p = ((refl, refl), refl)
+oriented-keeps FlipHorizontal q p = ((refl, refl), refl)
+oriented-keeps Rotate180 q p = ((refl, refl), refl)
+oriented-keeps FlipVertical q p = ((refl, refl), refl)
+oriented-keeps Transpose q p = ((refl, refl), refl)
+oriented-keeps Rotate90 q p = ((refl, refl), refl)
+oriented-keeps Transverse q p = ((refl, refl), refl)
+oriented-keeps Rotate270 q p = ((refl, refl), refl)
 
 moved-keeps : (e : Edit) (q : Carried) → Alike (moved e q .point) (q .point)
-unfolding moved cutPoint orientedBy
+unfolding moved cutPoint
 moved-keeps (Cut l t w h) q = (refl, refl)
-moved-keeps (Orient o) q = by (stepsOf o) (framed (q .frame) (q .point))
-  where
-    by : (s : Steps) (r : Framed) → Alike (taken s r .point) (r .point)
-    by (turns n) r = turns-keep n r
-    by (mirrorThen n) r = turns-keep n (mirrored r)
+moved-keeps (Orient o) q = oriented-keeps o (framed (q .frame) (q .point)) (q .point) .0
+
+moved-frame : (e : Edit) (q r : Carried) → q .frame ≡ r .frame → moved e q .frame ≡ moved e r .frame
+unfolding moved cutPoint
+moved-frame (Cut l t w h) q r e = refl
+moved-frame (Orient o) q r e =
+    oriented-keeps o (framed (q .frame) (q .point)) (r .point) .1
+    ∙ ap (λ (f : Size). orientedBy o (framed f (r .point)) .frame) e
 
 pub number-and-focus-kept : NumberAndFocusKept
 unfolding placed
@@ -62,21 +74,6 @@ number-and-focus-kept f p ws (suc n) =
     let m = moved-keeps (editAt ws n) (placed f p ws n) in
     let k = number-and-focus-kept f p ws n in
     (m .0 ∙ k .0, m .1 ∙ k .1)
-
--- ---- the frame goes by the frame alone
-turns-frame : (n : ℕ) (q r : Framed) → q .frame ≡ r .frame → turnedBy n q .frame ≡ turnedBy n r .frame
-unfolding turnedBy
-turns-frame zero q r e = e
-turns-frame (suc n) q r e = ap swapped (turns-frame n q r e)
-
-moved-frame : (e : Edit) (q r : Carried) → q .frame ≡ r .frame → moved e q .frame ≡ moved e r .frame
-unfolding moved cutPoint orientedBy
-moved-frame (Cut l t w h) q r e = refl
-moved-frame (Orient o) q r e = by (stepsOf o) (framed (q .frame) (q .point)) (framed (r .frame) (r .point)) e
-  where
-    by : (s : Steps) (q r : Framed) → q .frame ≡ r .frame → taken s q .frame ≡ taken s r .frame
-    by (turns n) q r e = turns-frame n q r e
-    by (mirrorThen n) q r e = turns-frame n (mirrored q) (mirrored r) e
 
 pub one-frame : OneFrame
 unfolding placed
@@ -96,7 +93,7 @@ moved-parts e q =
 -- `walk`, where no edit is left and where one is
 module _ (ws : List ℕ) (i : ℕ) (b : Bool) (k : ℕ) (c : Point) (a : Size) (g : InFocus) (f : Size) where
   pub walk-ends : (n : ℕ) → n ≡ 0
-      → carriedOf b k g (c .x ∷ c .y ∷ a .width ∷ a .height ∷ f .width ∷ f .height ∷ []) ≡ walked ws i n (carriedBy b k c a g f)
+      → walkEnd b k g (c .x ∷ c .y ∷ a .width ∷ a .height ∷ f .width ∷ f .height ∷ []) ≡ walked ws i n (carriedBy b k c a g f)
   unfolding walked
   walk-ends n e = rw e
 

@@ -23,11 +23,11 @@ unfoldable pub listedBetween : Sheet → ℕ → ℕ → List FocusPoint
 listedBetween s a zero = []
 listedBetween s a (suc i) = listedBetween s a i ++ cond (leb a i) (ifCarried (placedAt s i)) []
 
--- these in 39 places, and the primary
+-- these in 39 places, and where the primary is
 unfoldable pub presentOf : Sheet → ℕ → ℕ → Present
 presentOf s a b =
     record {
-      primary = placedAt s (s .primary);
+      «primary_place» = placedAt s (s .primary);
       points = places (listedBetween s a b);
       count = length (listedBetween s a b);
       index = length (listedBetween s a (s .primary));
@@ -50,6 +50,6 @@ carriedBy b n c a g f =
       frame = f;
     }
 
--- and of six numbers: center, area and frame, each across and then down
-abbrev pub carriedOf : Bool → ℕ → InFocus → List ℕ → Carried
-carriedOf b n g e = carriedBy b n (point (getD e 0 0) (getD e 1 0)) (by (getD e 2 0) (getD e 3 0)) g (by (getD e 4 0) (getD e 5 0))
+-- what a walk ends with, of six numbers: center, area and frame, each across and then down
+abbrev pub walkEnd : Bool → ℕ → InFocus → List ℕ → Carried
+walkEnd b n g e = carriedBy b n (point (getD e 0 0) (getD e 1 0)) (by (getD e 2 0) (getD e 3 0)) g (by (getD e 4 0) (getD e 5 0))

@@ -16,7 +16,7 @@ FromTheFront = (f : Size) (p : FocusPoint) (ws : List ℕ) (n : ℕ) → walked 
 abbrev pub WalkedOn : Type 0
 WalkedOn = (f : Size) (p : FocusPoint) (ws : List ℕ) (i n : ℕ) → walked ws i n (placed f p ws i) ≡ placed f p ws (i + n)
 
--- the sides that are carried along are those of the edits alone: every point of the frame comes to the same present frame, so that any
+-- the sides that are carried along do not depend on the point: every point of the load comes to the same present frame, so that any
 -- point's walk tells the frame of a listing
 abbrev pub OneFrame : Type 0
 OneFrame = (f : Size) (p q : FocusPoint) (ws : List ℕ) (n : ℕ) → placed f p ws n .frame ≡ placed f q ws n .frame

@@ -13,7 +13,7 @@ ghost use lib.Dec.{leb};
 ghost use Rattle.reading.specs.Outcome.{numberOf};
 ghost use Rattle.sheet.specs.Answer.{editMeans};
 ghost use Rattle.sheet.specs.Place.{shiftedPoint, staysOn, cutPoint, moved, wordsOf, editAt, placed, walked, isGoodCut};
-ghost use Rattle.sheet.specs.Inside.{carriedBy, carriedOf};
+ghost use Rattle.sheet.specs.Inside.{carriedBy, walkEnd};
 
 // One of the eight orientations, or a cut to a rectangle.
 pub enum Edit {
@@ -219,8 +219,8 @@ fn carried_by(
 }
 
 // The point and frame that a walk ends with, of six numbers: center, area and frame, each across and then down.
-fn carried_of(listed: bool, number: u32, in_focus: InFocus, end: [u32; 6]) -> Carried
-    ensures { λ r. ⌜ r ≡ carriedOf listed number in_focus end ⌝ }
+fn walk_end(listed: bool, number: u32, in_focus: InFocus, end: [u32; 6]) -> Carried
+    ensures { λ r. ⌜ r ≡ walkEnd listed number in_focus end ⌝ }
 {
     let center = Point {
         x: end[0],
@@ -238,9 +238,9 @@ fn carried_of(listed: bool, number: u32, in_focus: InFocus, end: [u32; 6]) -> Ca
 }
 
 // Carries a point and its frame through n edits, from the one at index i on: through that edit, and then, from where it leaves them,
-// through one less. Tells whether no cut dropped the point, and leaves the six numbers of `carried_of` in `end`. The call is the last
-// thing done, what is carried goes along in numbers, and a truth comes back: so the compiler makes a loop of it. A whole `Carried`,
-// passed or given back, would lie in memory at every edit, and the calls would stay open.
+// through one less. Tells whether no cut dropped the point, and leaves the six numbers of `walk_end` in `end`. The call is the last thing
+// done, and what is carried is handed on in numbers and given back in a lent array: so the compiler makes a loop of it. A whole `Carried`
+// as parameter or result of `walk` would lie in memory at every edit, and the calls would stay open.
 fn walk(
     words: &[u32; 320],
     i: usize,
@@ -254,7 +254,7 @@ fn walk(
     end: &mut [u32; 6],
 ) -> bool
     requires { ⌜ i + n ≤ 64 ⌝ }
-    ensures { λ r. ⌜ carriedOf r number in_focus (now (end .exit)) ≡ walked (now (words .entry)) i n (carriedBy listed number center size in_focus frame) ⌝ }
+    ensures { λ r. ⌜ walkEnd r number in_focus (now (end .exit)) ≡ walked (now (words .entry)) i n (carriedBy listed number center size in_focus frame) ⌝ }
 {
     if n == 0 {
         *end = [
@@ -269,9 +269,9 @@ fn walk(
     }
     let place = carried_by(listed, number, center, size, in_focus, frame);
     let next = move_by(edit_at(words, i), place);
-    let to = next.point;
-    let center = to.center;
-    let size = to.size;
+    let moved = next.point;
+    let center = moved.center;
+    let size = moved.size;
     let frame = next.frame;
     walk(
         words,
@@ -315,5 +315,5 @@ pub fn place_after(frame: Size, point: FocusPoint, words: &[u32; 320], n: usize)
         frame,
         &mut end,
     );
-    carried_of(listed, number, in_focus, end)
+    walk_end(listed, number, in_focus, end)
 }

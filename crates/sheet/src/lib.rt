@@ -54,9 +54,9 @@ pub struct Loaded {
 }
 
 // The listed ones among some points, where the standing edits carry them: in 39 places, how many there are, and the primary's index
-// among them. And the primary, listed or not: its frame is the present one.
+// among them. And the primary's place, listed or not: its frame is the present one.
 struct Present {
-    primary: Carried,
+    primary_place: Carried,
     points: [FocusPoint; 39],
     count: usize,
     index: usize,
@@ -152,10 +152,11 @@ impl Sheet {
         let frame = self.frame;
         let standing = self.standing;
         let at = self.primary;
-        let loaded = self.points[at];
-        let mut primary = Carried {
+        // as the load has it, until its own walk is seen
+        let unmoved = self.points[at];
+        let mut primary_place = Carried {
             listed: true,
-            point: loaded,
+            point: unmoved,
             frame,
         };
         let mut points = placing::load::no_places();
@@ -166,7 +167,7 @@ impl Sheet {
             let p = self.points[i];
             let place = crate::edits::place_after(frame, p, &self.edits, standing);
             if i == at {
-                primary = place;
+                primary_place = place;
                 index = count;
             }
             if place.listed {
@@ -177,7 +178,7 @@ impl Sheet {
             i += 1;
         }
         Present {
-            primary,
+            primary_place,
             points,
             count,
             index,
@@ -243,7 +244,7 @@ impl Sheet {
         }
         let at = self.primary;
         let present = self.present(at, at + 1);
-        let place = present.primary;
+        let place = present.primary_place;
         let frame = place.frame;
         if !crate::edits::is_good_cut(left, top, width, height, frame) {
             return self.ends(EditAnswer::BadCut);

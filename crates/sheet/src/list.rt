@@ -40,8 +40,8 @@ impl Sheet {
         if !crate::listing::write_points(points, count, out) {
             return ListAnswer::Short;
         }
-        let primary = present.primary;
-        let frame = primary.frame;
+        let place = present.primary_place;
+        let frame = place.frame;
         let mode = self.area_mode;
         let origin = self.origin;
         ListAnswer::Listed(ListHead {
@@ -66,8 +66,8 @@ impl Sheet {
         let present = self.present(0, self.count);
         let count = present.count;
         let points = present.points;
-        let primary = present.primary;
-        let frame = primary.frame;
+        let place = present.primary_place;
+        let frame = place.frame;
         let scaled = scaled_points(points, count, frame, size);
         if !crate::listing::write_points(scaled, count, out) {
             return ListAnswer::Short;

@@ -10,25 +10,19 @@ use Rattle.sheet.specs.declared.edits.Carried.{Carried}
 use Rattle.sheet.specs.declared.Sheet.{Sheet}
 use Rattle.sheet.specs.declared.Present.{Present}
 use Rattle.sheet.specs.Place.{cutPoint, moved, isGoodCut}
-use Rattle.sheet.specs.Sheet.{leaves, keptBy, usable, placedAt, presentFrame, addEdit, keepsPrimary, cutSheet}
+use Rattle.sheet.specs.Sheet.{leaves, keptBy, usable, presentFrame, addEdit, keepsPrimary, cutSheet}
 use Rattle.sheet.specs.Inside.{presentOf}
+use Rattle.sheet.proofs.Presented.{primary-of, frame-of}
 use Rattle.sheet.proofs.Usable.{counts, when-empty, when-full, when-open}
 use borrow.Author.Needs.{needs}
 use Rattle.sheet.proofs.Sheet.cut.Statement.{statement}
 use Rattle.sheet.proofs.Sheet.cut.Tie as tie
 
-module _ (s : Sheet) (a b : ℕ) (v : Present) (e : v ≡ presentOf s a b) where
-  primary-of : v .primary ≡ placedAt s (s .primary)
-  unfolding presentOf
-  primary-of = ap (λ (x : Present). x .primary) e
-
-  frame-of : v .primary .frame ≡ presentFrame s
-  unfolding presentFrame
-  frame-of = ap (λ (x : Carried). x .frame) primary-of
-
-  listed-by : (l t w h : ℕ) (u : Carried) → u ≡ cutPoint l t w h (v .primary) → u .listed ≡ keepsPrimary s (Cut l t w h)
-  unfolding keepsPrimary moved
-  listed-by l t w h u g = ap (λ (x : Carried). x .listed) (g ∙ ap (cutPoint l t w h) primary-of)
+listed-by : (s : Sheet) (a b : ℕ) (v : Present) → v ≡ presentOf s a b → (l t w h : ℕ) (u : Carried)
+    → u ≡ cutPoint l t w h (v .«primary_place»)
+    → u .listed ≡ keepsPrimary s (Cut l t w h)
+unfolding keepsPrimary moved
+listed-by s a b v e l t w h u g = ap (λ (x : Carried). x .listed) (g ∙ ap (cutPoint l t w h) (primary-of s a b v e))
 
 module _ (s : Sheet) (l t w h : ℕ) (r : Bool) (e : r ≡ usable s) (n : not r ≡ false) (a : s .standing < 64)
     (f : Size) (ef : f ≡ presentFrame s) (p : Bool) (ep : p ≡ isGoodCut l t w h f) where

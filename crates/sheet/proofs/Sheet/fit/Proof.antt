@@ -31,15 +31,15 @@ scaled-length old new ps = length-map ps _
 
 -- the first points of those that `scaled_points` gives
 scaled-listed : (s : Sheet) (box : Size) (v : Present) → v ≡ presentOf s 0 (s .count) → (qs : List FocusPoint)
-    → qs ≡ scaledAll (v .primary .frame) box (take (v .count) (v .points)) ++ drop (v .count) (v .points)
+    → qs ≡ scaledAll (v .«primary_place» .frame) box (take (v .count) (v .points)) ++ drop (v .count) (v .points)
     → take (v .count) qs ≡ scaledAll (presentFrame s) box (listing s)
 unfolding listCount
 scaled-listed s box v ev qs g =
     ap (take (v .count)) g
-    ∙ take-at (scaledAll (v .primary .frame) box (take (v .count) (v .points))) (drop (v .count) (v .points)) (v .count)
-    (scaled-length (v .primary .frame) box (take (v .count) (v .points)) ∙ ap length (points-of s v ev) ∙ sym (count-of s v ev))
-    ∙ ap (scaledAll (v .primary .frame) box) (points-of s v ev)
-    ∙ ap (λ (f : Size). scaledAll f box (listing s)) (frame-of s v ev)
+    ∙ take-at (scaledAll (v .«primary_place» .frame) box (take (v .count) (v .points))) (drop (v .count) (v .points)) (v .count)
+    (scaled-length (v .«primary_place» .frame) box (take (v .count) (v .points)) ∙ ap length (points-of s v ev) ∙ sym (count-of s v ev))
+    ∙ ap (scaledAll (v .«primary_place» .frame) box) (points-of s v ev)
+    ∙ ap (λ (f : Size). scaledAll f box (listing s)) (frame-of s 0 (s .count) v ev)
 
 module _ (s : Sheet) (box : Size) (r : Bool) (e : r ≡ usable s) (b : List ℕ) where
   empty : not r ≡ true → (listMeans Empty ≡ fitOutcome s box (length b)) × (b ≡ fitBuffer s box b)
@@ -52,7 +52,7 @@ module _ (s : Sheet) (box : Size) (r : Bool) (e : r ≡ usable s) (b : List ℕ)
     zero-box t = rw (← e, not-false r n, ← ez, t) (refl, refl)
 
     module _ (t : z ≡ false) (v : Present) (ev : v ≡ presentOf s 0 (s .count)) (qs : List FocusPoint)
-        (g : qs ≡ scaledAll (v .primary .frame) box (take (v .count) (v .points)) ++ drop (v .count) (v .points)) (w : Bool) (out : List ℕ)
+        (g : qs ≡ scaledAll (v .«primary_place» .frame) box (take (v .count) (v .points)) ++ drop (v .count) (v .points)) (w : Bool) (out : List ℕ)
         (p : (w ≡ hasRoom (v .count) (length b)) × (out ≡ withPoints qs (v .count) b)) where
       too-short : not w ≡ true → (listMeans Short ≡ fitOutcome s box (length b)) × (out ≡ fitBuffer s box b)
       unfolding fitOutcome fitBuffer

@@ -37,13 +37,13 @@ module _ (s : Sheet) (r : Bool) (e : r ≡ usable s) (b : List ℕ) where
         rw (← e, not-false r n, short s v ev (length b) (k .0)) (refl, k .1)
 
     all-listed : not w ≡ false
-        → (listMeans (Listed (record { frame = v .primary .frame; count = v .count; index = v .index; mode = s .«area_mode»; origin = s .origin })) ≡ listOutcome s (length b))
+        → (listMeans (Listed (record { frame = v .«primary_place» .frame; count = v .count; index = v .index; mode = s .«area_mode»; origin = s .origin })) ≡ listOutcome s (length b))
         × (out ≡ listBuffer s b)
     unfolding listOutcome listBuffer
     all-listed t =
         let k = has-room (v .points) (v .count) (count-room s v ev (counts s r e n)) b out w p t in
         rw (← e, not-false r n, long s v ev (length b) (k .0)) (
-          ap (λ (l : ListHead). listMeans (Listed l)) (head-of s v ev (v .primary .frame) ∙ ap (λ (f : Size). headIn f s) (frame-of s v ev)),
+          ap (λ (l : ListHead). listMeans (Listed l)) (head-of s v ev (v .«primary_place» .frame) ∙ ap (λ (f : Size). headIn f s) (frame-of s 0 (s .count) v ev)),
           k .1 ∙ ap (λ (ps : List FocusPoint). over (flat ps) b) (points-of s v ev),
         )
 

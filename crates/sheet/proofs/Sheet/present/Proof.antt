@@ -1,26 +1,25 @@
 -- `Sheet::present`: the loop's invariant is that the places hold the points that are listed from `from` up to i, and that place and index
 -- are the primary's once it has been seen. Assumes nothing.
-use mathlib.Core.Path.{refl}
 use mathlib.Core.Logic.{⊎-elim}
 use Prim.Native.Nat.{_-_, _≤_}
 use native.Mathlib.Omega.{arith}
 use Rattle.placing.specs.Laid.{places}
-use Rattle.sheet.proofs.Listed.{Row, empty-row, has-room, one-in, none-in, Seen, seen-now, seen-before, all-seen}
+use Rattle.sheet.proofs.Listed.{Row, empty-row, place-left, one-in, none-in, Seen, seen-now, seen-before, all-seen}
 use borrow.Author.Needs.{needs}
 use Rattle.sheet.proofs.Sheet.present.Statement.{statement}
 use Rattle.sheet.proofs.Sheet.present.Tie as tie
 
 abbrev Inv-loop : tie.InvT-loop
-Inv-loop from to self frame standing at primary₀ points₀ count₀ index₀ i₀ primary points count index i = (from ≤ i) × (i ≤ to) × Row self from i count points × Seen self from i primary index
+Inv-loop from to self frame standing at primary_place₀ points₀ count₀ index₀ i₀ primary_place points count index i = (from ≤ i) × (i ≤ to) × Row self from i count points × Seen self from i primary_place index
 
 abbrev μ-loop : tie.MeasureT-loop
-μ-loop from to self frame standing at primary₀ points₀ count₀ index₀ i₀ primary points count index i = to - i
+μ-loop from to self frame standing at primary_place₀ points₀ count₀ index₀ i₀ primary_place points count index i = to - i
 
-mul-loaded : tie.Need-mul-loaded Inv-loop μ-loop
-mul-loaded c = omega (arith, c .before .pre)
+mul-unmoved : tie.Need-mul-unmoved Inv-loop μ-loop
+mul-unmoved c = omega (arith, c .before .pre)
 
-element-copy-out-loaded : tie.Need-element-copy-out-loaded Inv-loop μ-loop
-element-copy-out-loaded c = omega (arith, c .before .pre)
+element-copy-out-unmoved : tie.Need-element-copy-out-unmoved Inv-loop μ-loop
+element-copy-out-unmoved c = omega (arith, c .before .pre)
 
 no-places-requires : tie.Need-no-places-requires Inv-loop μ-loop
 no-places-requires c κs = search needs
@@ -41,19 +40,13 @@ place-after-requires : tie.Need-place-after-requires Inv-loop μ-loop
 place-after-requires c κs = search needs
 
 mul-points : tie.Need-mul-points Inv-loop μ-loop
-mul-points c =
-    let b = has-room _ _ _ _ _ (omega (arith, c .before .before .before .before .before .before .before .before .before .before .before .before .pre)) (c .before .before .before .before .before .before .before .before .loop .inv .2) in
-    omega (arith, c .before .before .before .before .before .before .before .before .before .before .before .before .pre)
+mul-points c = let l = place-left _ _ _ _ _ (omega (arith, c .before .before .before .before .before .before .before .before .before .before .before .before .pre)) (c .before .before .before .before .before .before .before .before .loop .inv .2) in omega arith
 
 array-set-from-points : tie.Need-array-set-from-points Inv-loop μ-loop
-array-set-from-points c =
-    let b = has-room _ _ _ _ _ (omega (arith, c .before .before .before .before .before .before .before .before .before .before .before .before .pre)) (c .before .before .before .before .before .before .before .before .loop .inv .2) in
-    omega (arith, c .before .before .before .before .before .before .before .before .before .before .before .before .pre)
+array-set-from-points c = place-left _ _ _ _ _ (omega (arith, c .before .before .before .before .before .before .before .before .before .before .before .before .pre)) (c .before .before .before .before .before .before .before .before .loop .inv .2)
 
 add-count : tie.Need-add-count Inv-loop μ-loop
-add-count c =
-    let b = has-room _ _ _ _ _ (omega (arith, c .before .before .before .before .before .before .before .before .before .before .before .before .pre)) (c .before .before .before .before .before .before .before .before .loop .inv .2) in
-    omega (arith, c .before .before .before .before .before .before .before .before .before .before .before .before .pre)
+add-count c = let l = place-left _ _ _ _ _ (omega (arith, c .before .before .before .before .before .before .before .before .before .before .before .before .pre)) (c .before .before .before .before .before .before .before .before .loop .inv .2) in omega arith
 
 add-i : tie.Need-add-i Inv-loop μ-loop
 add-i c = omega (arith, c .before .before .before .before .before .before .before .before .before .before .before .pre)
@@ -89,8 +82,8 @@ present-spec =
     (tie.spec
     Inv-loop
     μ-loop
-    mul-loaded
-    element-copy-out-loaded
+    mul-unmoved
+    element-copy-out-unmoved
     no-places-requires
     loop-holds
     mul-p

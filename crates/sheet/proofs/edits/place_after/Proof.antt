@@ -11,13 +11,13 @@ held-requires c κs = search needs
 walk-requires : tie.Need-walk-requires
 walk-requires c κs = search needs
 
-carried-of-requires : tie.Need-carried-of-requires
-carried-of-requires c κs = search needs
+walk-end-requires : tie.Need-walk-end-requires
+walk-end-requires c κs = search needs
 
 returns : tie.Need-returns
 unfolding placed
 returns c =
-    walk-whole _ _ _ _ _ (c .before .before .before .held .ensures) _ (c .before .walk .ensures) _ (c .carried-of .ensures)
+    walk-whole _ _ _ _ _ (c .before .before .before .held .ensures) _ (c .before .walk .ensures) _ (c .walk-end .ensures)
 
 pub place-after-spec : {M : Type 1} → statement M
-place-after-spec = tie.close (tie.spec held-requires walk-requires carried-of-requires returns)
+place-after-spec = tie.close (tie.spec held-requires walk-requires walk-end-requires returns)
