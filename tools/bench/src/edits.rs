@@ -112,7 +112,7 @@ pub fn list(
     edits: impl Iterator<Item = Edit> + Clone,
     out: &mut [u32],
 ) -> Result<Head, u32> {
-    let mut listed = [[0; 6]; 39];
+    let mut rows = [[0; 6]; 39];
     let mut head = Head { frame, count: 0, index: 0 };
     for (i, &point) in points.iter().enumerate() {
         let place = carried(frame, point, edits.clone());
@@ -121,17 +121,17 @@ pub fn list(
             head.index = head.count;
         }
         if place.listed {
-            listed[head.count] = [point[0], place.center[0], place.center[1], place.area[0], place.area[1], point[5]];
+            rows[head.count] = [point[0], place.center[0], place.center[1], place.area[0], place.area[1], point[5]];
             head.count += 1;
         }
     }
-    let numbers = listed[..head.count].as_flattened();
+    let numbers = rows[..head.count].as_flattened();
     out.get_mut(..numbers.len()).ok_or(13u32)?.copy_from_slice(numbers);
     Ok(head)
 }
 
 /// The head and the points of a listing's text.
-pub fn listed(text: &[u8]) -> (Head, Vec<u32>) {
+pub fn of_text(text: &[u8]) -> (Head, Vec<u32>) {
     let numbers = |line: &str| -> Vec<u32> { line.split(' ').filter_map(|word| word.parse().ok()).collect() };
     let text = std::str::from_utf8(text).unwrap();
     let mut lines = text.lines().skip_while(|line| !line.starts_with("frame")).map(numbers);

@@ -121,7 +121,7 @@ fn script_of(edits: &[Edit]) -> Vec<u8> {
 
 /// What the library lists behind these edits.
 fn listed_behind(edits: &[Edit]) -> (edits::Head, Vec<u32>) {
-    edits::listed(&focuspoints::script(&[&script_of(edits), LIST].concat()))
+    edits::of_text(&focuspoints::script(&[&script_of(edits), LIST].concat()))
 }
 
 /// Microseconds for a list line by focusdesk behind these edits.
