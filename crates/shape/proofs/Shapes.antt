@@ -1,0 +1,61 @@
+-- The laws of the test of shapes, and its examples. The idea: products are taken as numbers, of which the test is linear; where both
+-- products are one, nothing is between them. Assumes nothing.
+use Prim.Native.Nat.{ℕ, _+_, _*_, _≤_}
+use mathlib.Core.Bool.{true}
+use mathlib.Core.Path.{_≡_, refl, sym, ap₂, _∙_}
+use lib.Dec.{leb}
+use native.Mathlib.Nat.{mul-comm, mul-assoc}
+use native.Mathlib.Omega.{arith}
+use borrow.Author.Tests.{le-leb, leb-true}
+use Rattle.reading.specs.declared.geometry.Size.{Size}
+use Rattle.placing.specs.Fit.{swapped}
+use Rattle.shape.specs.Shape.{difference, longestSide, sameShape}
+use Rattle.shape.specs.ShapeLaws.{NearInShape, ToldByProducts, times, OwnShape, TimesShape, EitherWay, BothSwapped, rowsAgree, ShapeExamples}
+
+near : (f b : Size) → sameShape f b ≡ true → NearInShape f b
+unfolding sameShape
+near f b e =
+    let l = leb-true (difference (f .width * b .height) (f .height * b .width)) (longestSide f b) e in
+    record { above = omega arith; below = omega arith }
+
+same : (f b : Size) → NearInShape f b → sameShape f b ≡ true
+unfolding sameShape
+same f b n =
+    let l : difference (f .width * b .height) (f .height * b .width) ≤ longestSide f b = omega (arith, n .above, n .below) in
+    le-leb (difference (f .width * b .height) (f .height * b .width)) (longestSide f b) l
+
+pub told-by-products : ToldByProducts
+told-by-products f b = (near f b, same f b)
+
+-- equal products
+pub equal-products : (f b : Size) → f .width * b .height ≡ f .height * b .width → sameShape f b ≡ true
+equal-products f b e = same f b (record { above = omega arith; below = omega arith })
+
+pub own-shape : OwnShape
+own-shape f = equal-products f f (mul-comm (f .width) (f .height))
+
+pub times-shape : TimesShape
+times-shape k f = equal-products f (times k f) (across (f .width) (f .height))
+  where
+    across : (w h : ℕ) → w * (k * h) ≡ h * (k * w)
+    across w h = sym (mul-assoc w k h) ∙ mul-comm (w * k) h ∙ ap₂ (λ (a b : ℕ). a * b) refl (mul-comm w k)
+
+pub either-way : EitherWay
+unfolding sameShape
+either-way a b =
+    let p = mul-comm (a .width) (b .height) in
+    let q = mul-comm (a .height) (b .width) in
+    let d : difference (a .width * b .height) (a .height * b .width) ≡ difference (b .width * a .height) (b .height * a .width) = omega arith in
+    let l : longestSide a b ≡ longestSide b a = omega arith in
+    ap₂ leb d l
+
+pub both-swapped : BothSwapped
+unfolding sameShape
+both-swapped a b =
+    let d : difference (a .height * b .width) (a .width * b .height) ≡ difference (a .width * b .height) (a .height * b .width) = omega arith in
+    let l : longestSide (swapped a) (swapped b) ≡ longestSide a b = omega arith in
+    ap₂ leb d l
+
+pub shape-examples : ShapeExamples
+unfolding rowsAgree sameShape
+shape-examples = refl
