@@ -10,7 +10,7 @@ use Rattle.placing.specs.declared.focus.FocusPoint.{FocusPoint}
 use Rattle.placing.specs.Load.{originNumber}
 use Rattle.sheet.specs.declared.listing.ListHead.{ListHead}
 use Rattle.sheet.specs.declared.listing.ListAnswer.{ListAnswer}
-use Rattle.sheet.specs.declared.listing.ListAnswer.the-variants.{Empty, ZeroBox, Short, Listed}
+use Rattle.sheet.specs.declared.listing.ListAnswer.the-variants.{Empty, ZeroBox, ShapesDiffer, Short, Listed}
 
 -- "The answer holds frame, count, primary's index from 0, mode .., origin", in 01's numbers
 unfoldable pub headNumbers : ListHead → List ℕ
@@ -18,10 +18,11 @@ headNumbers l =
     l .frame .width ∷
     l .frame .height ∷ l .count ∷ l .index ∷ modeNumber (l .mode) ∷ originNumber (l .origin) ∷ []
 
--- what the code's answer means: 01's number for each refusal, or the numbers that are given
+-- what the code's answer means: the documents' number for each refusal, or the numbers that are given
 abbrev pub listMeans : ListAnswer → Outcome (List ℕ)
 listMeans Empty = refused 7
 listMeans ZeroBox = refused 12
+listMeans ShapesDiffer = refused 19
 listMeans Short = refused 13
 listMeans (Listed l) = accepted (headNumbers l)
 

@@ -1,4 +1,4 @@
--- 01, "After the sheet": what list and fit answer and write, for every sheet and buffer.
+-- 01, "After the sheet", and 2026-05: what list and fit answer and write, for every sheet and buffer.
 use Prim.Native.Nat.{ℕ, zero, suc, _*_}
 use mathlib.Core.Bool.{Bool, cond}
 use mathlib.Core.List.{List, [], _∷_, _++_, map}
@@ -9,6 +9,7 @@ use Rattle.reading.specs.declared.geometry.Size.{Size}
 use Rattle.placing.specs.declared.focus.FocusPoint.{FocusPoint}
 use Rattle.placing.specs.Fit.{hasZeroSide}
 use Rattle.placing.specs.Scale.{scaledPoint}
+use Rattle.shape.specs.Shape.{sameShape}
 use Rattle.sheet.specs.declared.edits.Carried.{Carried}
 use Rattle.sheet.specs.Listing.{headNumbers, flat, over}
 use Rattle.sheet.specs.declared.Sheet.{Sheet}
@@ -58,11 +59,15 @@ listBuffer s b = cond (usable s) (cond (isShort s (length b)) b (over (flat (lis
 unfoldable pub scaledAll : Size → Size → List FocusPoint → List FocusPoint
 scaledAll old new ps = map (λ p. scaledPoint p old new) ps
 
--- "Fit answers .. as list does, with the box as frame": 12 comes before 13
+-- "Fit answers .. as list does, with the box as frame": 12, then 02's "19, shapes differ, between 12 and 13", of the present frame and
+-- the box
 unfoldable pub fitOutcome : Sheet → Size → ℕ → Outcome (List ℕ)
 fitOutcome s box m =
     cond (usable s)
-    (cond (hasZeroSide box) (refused 12) (cond (isShort s m) (refused 13) (accepted (headNumbers (headIn box s)))))
+    (cond (hasZeroSide box) (refused 12)
+    (cond (sameShape (presentFrame s) box)
+    (cond (isShort s m) (refused 13) (accepted (headNumbers (headIn box s))))
+    (refused 19)))
     (refused 7)
 
 -- the buffer that fit leaves
@@ -70,5 +75,7 @@ unfoldable pub fitBuffer : Sheet → Size → List ℕ → List ℕ
 fitBuffer s box b =
     cond (usable s)
     (cond (hasZeroSide box) b
-    (cond (isShort s (length b)) b (over (flat (scaledAll (presentFrame s) box (listing s))) b)))
+    (cond (sameShape (presentFrame s) box)
+    (cond (isShort s (length b)) b (over (flat (scaledAll (presentFrame s) box (listing s))) b))
+    b))
     b

@@ -53,7 +53,7 @@ impl Sheet {
         })
     }
 
-    // Writes the listed points as `list` does, measured in a frame of `size`.
+    // Writes the listed points as `list` does, measured in a frame of `size`, which must have the present frame's shape.
     pub fn fit(self, size: Size, out: &mut [u32]) -> ListAnswer
         ensures { λ r. ⌜ (listMeans r ≡ fitOutcome self size (length (now (out .entry)))) × (now (out .exit) ≡ fitBuffer self size (now (out .entry))) ⌝ }
     {
@@ -68,6 +68,9 @@ impl Sheet {
         let points = present.points;
         let place = present.primary_place;
         let frame = place.frame;
+        if !shape::same_shape(frame, size) {
+            return ListAnswer::ShapesDiffer;
+        }
         let scaled = scaled_points(points, count, frame, size);
         if !crate::listing::write_points(scaled, count, out) {
             return ListAnswer::Short;

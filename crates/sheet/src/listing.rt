@@ -19,21 +19,23 @@ pub struct ListHead {
     pub origin: FocusOrigin,
 }
 
-// How list and fit end: refused by 01's numbers 7, 12 and 13, in this order, or listed.
+// How list and fit end: refused by 01's numbers 7 and 12, 02's 19 and 01's 13, in this order, or listed.
 pub enum ListAnswer {
     Empty,
     ZeroBox,
+    ShapesDiffer,
     Short,
     Listed(ListHead),
 }
 
-// 01's number for how list and fit end, 0 for listed.
+// The documents' number for how list and fit end, 0 for listed.
 pub fn list_number(answer: ListAnswer) -> u32
     ensures { λ r. ⌜ r ≡ numberOf (listMeans answer) ⌝ }
 {
     match answer {
         ListAnswer::Empty => 7,
         ListAnswer::ZeroBox => 12,
+        ListAnswer::ShapesDiffer => 19,
         ListAnswer::Short => 13,
         ListAnswer::Listed(_) => 0,
     }

@@ -10,9 +10,10 @@ use borrow.Author.Tests.{not-true, not-false}
 use Rattle.reading.specs.declared.geometry.Size.{Size}
 use Rattle.placing.specs.declared.focus.FocusPoint.{FocusPoint}
 use Rattle.placing.specs.Fit.{hasZeroSide}
+use Rattle.shape.specs.Shape.{sameShape}
 use Rattle.sheet.specs.declared.Sheet.{Sheet}
 use Rattle.sheet.specs.declared.listing.ListHead.{ListHead}
-use Rattle.sheet.specs.declared.listing.ListAnswer.the-variants.{Empty, ZeroBox, Short, Listed}
+use Rattle.sheet.specs.declared.listing.ListAnswer.the-variants.{Empty, ZeroBox, ShapesDiffer, Short, Listed}
 use Rattle.sheet.specs.declared.Present.{Present}
 use Rattle.sheet.specs.Sheet.{usable, presentFrame}
 use Rattle.sheet.specs.Listing.{listMeans, flat, over, hasRoom, withPoints}
@@ -51,25 +52,34 @@ module _ (s : Sheet) (box : Size) (r : Bool) (e : r ≡ usable s) (b : List ℕ)
     unfolding fitOutcome fitBuffer
     zero-box t = rw (← e, not-false r n, ← ez, t) (refl, refl)
 
-    module _ (t : z ≡ false) (v : Present) (ev : v ≡ presentOf s 0 (s .count)) (qs : List FocusPoint)
-        (g : qs ≡ scaledAll (v .«primary_place» .frame) box (take (v .count) (v .points)) ++ drop (v .count) (v .points)) (w : Bool) (out : List ℕ)
-        (p : (w ≡ hasRoom (v .count) (length b)) × (out ≡ withPoints qs (v .count) b)) where
-      too-short : not w ≡ true → (listMeans Short ≡ fitOutcome s box (length b)) × (out ≡ fitBuffer s box b)
-      unfolding fitOutcome fitBuffer
-      too-short y =
-          let k = no-room qs (v .count) (count-room s v ev (counts s r e n)) b out w p y in
-          rw (← e, not-false r n, ← ez, t, short s v ev (length b) (k .0)) (refl, k .1)
+    module _ (t : z ≡ false) (v : Present) (ev : v ≡ presentOf s 0 (s .count)) (q : Bool) (eq : q ≡ sameShape (v .«primary_place» .frame) box) where
+      -- the shape of the present frame
+      of-present : q ≡ sameShape (presentFrame s) box
+      of-present = eq ∙ ap (λ (f : Size). sameShape f box) (frame-of s 0 (s .count) v ev)
 
-      all-listed : not w ≡ false
-          → (listMeans (Listed (record { frame = box; count = v .count; index = v .index; mode = s .«area_mode»; origin = s .origin })) ≡ fitOutcome s box (length b))
-          × (out ≡ fitBuffer s box b)
+      shapes-differ : not q ≡ true → (listMeans ShapesDiffer ≡ fitOutcome s box (length b)) × (b ≡ fitBuffer s box b)
       unfolding fitOutcome fitBuffer
-      all-listed y =
-          let k = has-room qs (v .count) (count-room s v ev (counts s r e n)) b out w p y in
-          rw (← e, not-false r n, ← ez, t, long s v ev (length b) (k .0)) (
-            ap (λ (l : ListHead). listMeans (Listed l)) (head-of s v ev box),
-            k .1 ∙ ap (λ (ps : List FocusPoint). over (flat ps) b) (scaled-listed s box v ev qs g),
-          )
+      shapes-differ d = rw (← e, not-false r n, ← ez, t, ← of-present, not-true q d) (refl, refl)
+
+      module _ (d : not q ≡ false) (qs : List FocusPoint)
+          (g : qs ≡ scaledAll (v .«primary_place» .frame) box (take (v .count) (v .points)) ++ drop (v .count) (v .points)) (w : Bool) (out : List ℕ)
+          (p : (w ≡ hasRoom (v .count) (length b)) × (out ≡ withPoints qs (v .count) b)) where
+        too-short : not w ≡ true → (listMeans Short ≡ fitOutcome s box (length b)) × (out ≡ fitBuffer s box b)
+        unfolding fitOutcome fitBuffer
+        too-short y =
+            let k = no-room qs (v .count) (count-room s v ev (counts s r e n)) b out w p y in
+            rw (← e, not-false r n, ← ez, t, ← of-present, not-false q d, short s v ev (length b) (k .0)) (refl, k .1)
+
+        all-listed : not w ≡ false
+            → (listMeans (Listed (record { frame = box; count = v .count; index = v .index; mode = s .«area_mode»; origin = s .origin })) ≡ fitOutcome s box (length b))
+            × (out ≡ fitBuffer s box b)
+        unfolding fitOutcome fitBuffer
+        all-listed y =
+            let k = has-room qs (v .count) (count-room s v ev (counts s r e n)) b out w p y in
+            rw (← e, not-false r n, ← ez, t, ← of-present, not-false q d, long s v ev (length b) (k .0)) (
+              ap (λ (l : ListHead). listMeans (Listed l)) (head-of s v ev box),
+              k .1 ∙ ap (λ (ps : List FocusPoint). over (flat ps) b) (scaled-listed s box v ev qs g),
+            )
 
 is-usable-requires : tie.Need-is-usable-requires
 is-usable-requires c κs = search needs
@@ -86,8 +96,14 @@ returns-2 c = zero-box _ _ _ (c .before .before .before .is-usable .ensures) _ (
 present-requires : tie.Need-present-requires
 present-requires c κs = let u = counts _ _ (c .before .before .before .is-usable .ensures) (c .before .before .if1 .left) in (omega arith, u .primary, u .points, u .edits)
 
+same-shape-requires : tie.Need-same-shape-requires
+same-shape-requires c κs = search needs
+
+returns-3 : tie.Need-returns-3
+returns-3 c = shapes-differ _ _ _ (c .before .before .before .before .before .before .before .before .before .is-usable .ensures) _ (c .before .before .before .before .before .before .before .before .if1 .left) _ (c .before .before .before .before .before .before .before .has-zero-side .ensures) (c .before .before .before .before .before .before .if2 .left) _ (c .before .before .before .before .before .present .ensures) _ (c .before .same-shape .ensures) (c .if3 .taken)
+
 scaled-points-requires : tie.Need-scaled-points-requires
-scaled-points-requires c κs = count-room _ _ (c .before .before .before .present .ensures) (counts _ _ (c .before .before .before .before .before .before .before .is-usable .ensures) (c .before .before .before .before .before .before .if1 .left))
+scaled-points-requires c κs = count-room _ _ (c .before .before .before .before .before .present .ensures) (counts _ _ (c .before .before .before .before .before .before .before .before .before .is-usable .ensures) (c .before .before .before .before .before .before .before .before .if1 .left))
 
 write-points-requires : tie.Need-write-points-requires
 write-points-requires c κs = search needs
@@ -95,14 +111,14 @@ write-points-requires c κs = search needs
 same-length : tie.Need-same-length
 same-length c = search needs
 
-returns-3 : tie.Need-returns-3
-returns-3 c = too-short _ _ _ (c .before .before .before .before .before .before .before .before .before .before .before .before .before .is-usable .ensures) _ (c .before .before .before .before .before .before .before .before .before .before .before .before .if1 .left) _ (c .before .before .before .before .before .before .before .before .before .before .before .has-zero-side .ensures) (c .before .before .before .before .before .before .before .before .before .before .if2 .left) _ (c .before .before .before .before .before .before .before .before .before .present .ensures) _ (c .before .before .before .before .before .scaled-points .ensures) _ _ (c .before .before .before .write-points .ensures) (c .if3 .taken)
+returns-4 : tie.Need-returns-4
+returns-4 c = too-short _ _ _ (c .before .before .before .before .before .before .before .before .before .before .before .before .before .before .before .is-usable .ensures) _ (c .before .before .before .before .before .before .before .before .before .before .before .before .before .before .if1 .left) _ (c .before .before .before .before .before .before .before .before .before .before .before .before .before .has-zero-side .ensures) (c .before .before .before .before .before .before .before .before .before .before .before .before .if2 .left) _ (c .before .before .before .before .before .before .before .before .before .before .before .present .ensures) _ (c .before .before .before .before .before .before .before .same-shape .ensures) (c .before .before .before .before .before .before .if3 .left) _ (c .before .before .before .before .before .scaled-points .ensures) _ _ (c .before .before .before .write-points .ensures) (c .if4 .taken)
 
 same-length-2 : tie.Need-same-length-2
 same-length-2 c = search needs
 
-returns-4 : tie.Need-returns-4
-returns-4 c = all-listed _ _ _ (c .before .before .before .before .before .before .before .before .before .before .before .before .before .is-usable .ensures) _ (c .before .before .before .before .before .before .before .before .before .before .before .before .if1 .left) _ (c .before .before .before .before .before .before .before .before .before .before .before .has-zero-side .ensures) (c .before .before .before .before .before .before .before .before .before .before .if2 .left) _ (c .before .before .before .before .before .before .before .before .before .present .ensures) _ (c .before .before .before .before .before .scaled-points .ensures) _ _ (c .before .before .before .write-points .ensures) (c .if3 .left)
+returns-5 : tie.Need-returns-5
+returns-5 c = all-listed _ _ _ (c .before .before .before .before .before .before .before .before .before .before .before .before .before .before .before .is-usable .ensures) _ (c .before .before .before .before .before .before .before .before .before .before .before .before .before .before .if1 .left) _ (c .before .before .before .before .before .before .before .before .before .before .before .before .before .has-zero-side .ensures) (c .before .before .before .before .before .before .before .before .before .before .before .before .if2 .left) _ (c .before .before .before .before .before .before .before .before .before .before .before .present .ensures) _ (c .before .before .before .before .before .before .before .same-shape .ensures) (c .before .before .before .before .before .before .if3 .left) _ (c .before .before .before .before .before .scaled-points .ensures) _ _ (c .before .before .before .write-points .ensures) (c .if4 .left)
 
 pub fit-spec : {M : Type 1} → statement M
 fit-spec =
@@ -113,9 +129,11 @@ fit-spec =
     has-zero-side-requires
     returns-2
     present-requires
+    same-shape-requires
+    returns-3
     scaled-points-requires
     write-points-requires
     same-length
-    returns-3
+    returns-4
     same-length-2
-    returns-4)
+    returns-5)
