@@ -23,6 +23,7 @@ use Rattle.placing.specs.Focus.{focusOf}
 use Rattle.placing.specs.Load.{Focus, noPoint}
 use Rattle.placing.specs.Sound.{Sound}
 use Rattle.placing.proofs.Sound.{focus-sound}
+use Rattle.shape.specs.Shape.{sameShape}
 use Rattle.sheet.specs.declared.edits.Edit.{Edit}
 use Rattle.sheet.specs.declared.edits.Edit.the-variants.{Cut, Orient}
 use Rattle.sheet.specs.declared.edits.Carried.{Carried}
@@ -273,16 +274,17 @@ fits : (s : Sheet) (h : Held s) (box : Size) (b : List ℕ)
     → afterList (fitOutcome s box (length b)) (fitBuffer s box b) s .0 ≡ journalFit (holds (loadOf s) (rowOf s)) box b
 unfolding fitOutcome fitBuffer scaledAll journalFit
 fits s h box b =
-    rw (usable-held s h, present-frame s, listed-held s h) (by (hasZeroSide box))
+    rw (usable-held s h, present-frame s, listed-held s h) (by (hasZeroSide box) (sameShape (presentFrame (loadOf s) (rowOf s)) box))
   where
     ps : List FocusPoint
     ps = fitted (loadOf s) (rowOf s) box
 
-    by : (t : Bool) → afterList (cond t (refused 12) (cond (isShort s (length b)) (refused 13) (accepted (headNumbers (headIn box s)))))
-        (cond t b (cond (isShort s (length b)) b (flat ps ++ drop (length (flat ps)) b))) s .0
-        ≡ cond t (no 12 b) (written (loadOf s) (rowOf s) box ps b)
-    by true = refl
-    by false = writes s h box ps b (length-map (listing (loadOf s) (rowOf s)) (λ p. scaledPoint p (presentFrame (loadOf s) (rowOf s)) box))
+    by : (z t : Bool) → afterList (cond z (refused 12) (cond t (cond (isShort s (length b)) (refused 13) (accepted (headNumbers (headIn box s)))) (refused 19)))
+        (cond z b (cond t (cond (isShort s (length b)) b (flat ps ++ drop (length (flat ps)) b)) b)) s .0
+        ≡ cond z (no 12 b) (cond t (written (loadOf s) (rowOf s) box ps b) (no 19 b))
+    by true t = refl
+    by false false = refl
+    by false true = writes s h box ps b (length-map (listing (loadOf s) (rowOf s)) (λ p. scaledPoint p (presentFrame (loadOf s) (rowOf s)) box))
 
 -- ---- load
 pub loads : (s : Sheet) (g : Good s) (o : Outcome Focus) → Sound o → Agree (afterEdit (loadSheet s o)) (journalLoad (journalOf s) o)

@@ -1,4 +1,5 @@
--- What fit gives: by the claim, and by the laws of scaling, since every listed point fits the present frame. Assumes nothing.
+-- What fit gives in an accepted box: by the claim, and by the laws of scaling, since every listed point fits the present frame. Assumes
+-- nothing.
 use Prim.Native.Nat.{ℕ, zero, suc, _*_, _≤_, _<_}
 use mathlib.Core.List.{List, [], _∷_, map}
 use mathlib.Core.Path.{_≡_, refl, ap, _∙_}
@@ -13,6 +14,7 @@ use Rattle.placing.specs.Scale.{scaledPoint}
 use Rattle.placing.proofs.Fitting.{fits-on-frame}
 use Rattle.placing.proofs.Scaled.{scaled-fits, scaled-near}
 use Rattle.placing.specs.Load.{Focus, noPoint}
+use Rattle.shape.proofs.Shapes.{same-of}
 use Rattle.journal.specs.Journal.{Change, holds, presentFrame, listing, fitted, written, journalFit}
 use Rattle.journal.specs.Calls.{fit, journalStep}
 use Rattle.journal.specs.Claim.{FitsExactly, FitIsNear}
@@ -25,10 +27,11 @@ fitted-length f row box = length-map (listing f row) (λ p. scaledPoint p (prese
 
 pub fits-exactly : FitsExactly
 unfolding journalStep journalFit written
-fits-exactly calls f row e box z b l =
+fits-exactly calls f row e box g b l =
     let k : 6 * length (fitted f row box) ≤ length b =
     omega (arith, fitted-length f row box, ap length (listing-is-shown f row .0)) in
-    answered calls (holds f row) (fit box b) e ∙ rw (z, le-ltb (length b) (6 * length (fitted f row box)) k)
+    answered calls (holds f row) (fit box b) e
+    ∙ rw (g .no-zero-side, same-of (presentFrame f row) box (g .same-shape), le-ltb (length b) (6 * length (fitted f row box)) k)
 
 -- the i-th of a list of points, scaled
 map-at : (g : FocusPoint → FocusPoint) (ps : List FocusPoint) (i : ℕ) → i < length ps → getD (map g ps) i noPoint ≡ g (getD ps i noPoint)
@@ -37,7 +40,7 @@ map-at g (p ∷ ps) zero l = refl
 map-at g (p ∷ ps) (suc i) l = map-at g ps i (omega arith)
 
 pub fit-is-near : FitIsNear
-fit-is-near calls f row e box z w h i l =
+fit-is-near calls f row e box t w h i l =
     let r = right calls f row e in
     let g = presentFrame f row in
     let p = getD (listing f row) i noPoint in
@@ -46,5 +49,5 @@ fit-is-near calls f row e box z w h i l =
     map-at (λ q. scaledPoint q g box) (listing f row) i l in
     record {
       half-pixel = rw m (scaled-near p g box k w h);
-      on-box = rw m (fits-on-frame box (scaledPoint p g box) (scaled-fits p g box k z));
+      on-box = rw m (fits-on-frame box (scaledPoint p g box) (scaled-fits p g box k (t .no-zero-side)));
     }

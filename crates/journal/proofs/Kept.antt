@@ -12,6 +12,7 @@ use Rattle.reading.specs.declared.geometry.Size.{Size}
 use Rattle.placing.specs.Fit.{hasZeroSide}
 use Rattle.placing.specs.Focus.{focusOf}
 use Rattle.placing.specs.Load.{Focus}
+use Rattle.shape.specs.Shape.{sameShape}
 use Rattle.sheet.specs.declared.edits.Edit.the-variants.{Cut}
 use Rattle.sheet.specs.declared.orientation.Orientation.{Orientation}
 use Rattle.sheet.specs.declared.Sheet.{Sheet}
@@ -91,13 +92,16 @@ lists s b = by (usable s) (isShort s (length b))
 
 fits : (s : Sheet) (box : Size) (b : List ℕ) → Keeps (afterList (fitOutcome s box (length b)) (fitBuffer s box b) s) s b
 unfolding fitOutcome fitBuffer
-fits s box b = by (usable s) (hasZeroSide box) (isShort s (length b))
+fits s box b = by (usable s) (hasZeroSide box) (sameShape (presentFrame s) box) (isShort s (length b))
   where
-    by : (u z v : Bool) → Keeps (afterList (cond u (cond z (refused 12) (cond v (refused 13) (accepted (headNumbers (headIn box s))))) (refused 7)) (cond u (cond z b (cond v b (over (flat (scaledAll (presentFrame s) box (sheetListing s))) b))) b) s) s b
-    by true true v = inr (refl, refl)
-    by true false true = inr (refl, refl)
-    by true false false = inl refl
-    by false z v = inr (refl, refl)
+    by : (u z t v : Bool)
+        → Keeps (afterList (cond u (cond z (refused 12) (cond t (cond v (refused 13) (accepted (headNumbers (headIn box s)))) (refused 19))) (refused 7))
+        (cond u (cond z b (cond t (cond v b (over (flat (scaledAll (presentFrame s) box (sheetListing s))) b)) b)) b) s) s b
+    by true true t v = inr (refl, refl)
+    by true false false v = inr (refl, refl)
+    by true false true true = inr (refl, refl)
+    by true false true false = inl refl
+    by false z t v = inr (refl, refl)
 
 steps : (s : Sheet) (c : Call) → Keeps (sheetStep s c) s (lent c)
 unfolding sheetStep

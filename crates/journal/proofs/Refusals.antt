@@ -18,9 +18,11 @@ use Rattle.placing.specs.Fit.{hasZeroSide}
 use Rattle.laws.proofs.Tests.{neither, or-first, or-second}
 use Rattle.placing.specs.Focus.{focusOf}
 use Rattle.placing.specs.Load.{Focus}
+use Rattle.shape.specs.Shape.{sameShape}
+use Rattle.shape.proofs.Shapes.{same-told, same-of, other-told, other-of}
 use Rattle.journal.specs.Journal.{Change, cut, orient, Journal, empty, holds, stillListed, presentFrame, listing, primaryAfter, fitted, Answer, no, ok, ended, isBadCut, isOutside, ownRefusal, changeRefusal, backRefusal, journalLoad, journalChange, journalBack, head, numbers, written, journalList, journalFit}
 use Rattle.journal.specs.Calls.{Call, load, change, back, list, fit, lent, isLoad, journalStep, journalAfter}
-use Rattle.journal.specs.Claim.{after, newest, lastFrom, heldLoad, HoldsLastLoad, EmptyBefore, BadCut, GoodCut, Refuses, notLoaded, isEmpty, full, badCut, dropsPrimary, outside, nothingStands, zeroBox, short, shortFit, RefusedExactly}
+use Rattle.journal.specs.Claim.{after, newest, lastFrom, heldLoad, HoldsLastLoad, EmptyBefore, BadCut, GoodCut, Refuses, notLoaded, isEmpty, full, badCut, dropsPrimary, outside, nothingStands, zeroBox, shapesDiffer, short, shortFit, RefusedExactly}
 use Rattle.journal.proofs.Answers.{answers}
 use Rattle.journal.proofs.Fitted.{fitted-length}
 
@@ -211,14 +213,19 @@ written-told f row g ps b c n r e = by (ltb (length b) (6 * length ps)) refl e
 fit-told : (f : Focus) (row : List Change) (box : Size) (b : List ℕ) (n : ℕ)
     → journalFit (holds f row) box b .outcome ≡ refused n → Refuses (holds f row) (fit box b) n
 unfolding journalFit
-fit-told f row box b n e = by (hasZeroSide box) refl e
+fit-told f row box b n e = by (hasZeroSide box) (sameShape g box) refl refl e
   where
-    by : (z : Bool) → hasZeroSide box ≡ z → cond z (no 12 b) (written f row box (fitted f row box) b) .outcome ≡ refused n
+    g : Size
+    g = presentFrame f row
+
+    by : (z t : Bool) → hasZeroSide box ≡ z → sameShape g box ≡ t
+        → cond z (no 12 b) (cond t (written f row box (fitted f row box) b) (no 19 b)) .outcome ≡ refused n
         → Refuses (holds f row) (fit box b) n
-    by true p y = same-number (zeroBox p) y
-    by false p y =
+    by true t p q y = same-number (zeroBox p) y
+    by false false p q y = same-number (shapesDiffer p (other-told g box q)) y
+    by false true p q y =
         written-told f row box (fitted f row box) b (fit box b) n
-        (λ l. shortFit p (omega (arith, fitted-length f row box))) y
+        (λ l. shortFit (record { no-zero-side = p; same-shape = same-told g box q }) (omega (arith, fitted-length f row box))) y
 
 pub told : (j : Journal) (c : Call) (n : ℕ) → journalStep j c .0 .outcome ≡ refused n → Refuses j c n
 unfolding journalStep journalChange journalBack journalList
@@ -247,8 +254,9 @@ says (outside {standing = row} {n = n} r d) = rw (lt-leb 64 (length row) r, outs
 says nothingStands = refl
 says (zeroBox z) = rw z
 says (short {f = f} {standing = row} {buffer = b} l) = rw (lt-ltb (length b) (6 * length (listing f row)) l)
-says (shortFit {f = f} {standing = row} {box = box} {buffer = b} z l) =
-    rw (z, fitted-length f row box, lt-ltb (length b) (6 * length (listing f row)) l)
+says (shapesDiffer {f = f} {standing = row} {box = box} z d) = rw (z, other-of (presentFrame f row) box d)
+says (shortFit {f = f} {standing = row} {box = box} {buffer = b} g l) =
+    rw (g .no-zero-side, same-of (presentFrame f row) box (g .same-shape), fitted-length f row box, lt-ltb (length b) (6 * length (listing f row)) l)
 
 pub refused-exactly : RefusedExactly
 refused-exactly calls c n = (

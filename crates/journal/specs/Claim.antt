@@ -16,6 +16,7 @@ use Rattle.placing.specs.Fit.{hasZeroSide, pointFits}
 use Rattle.placing.specs.FittingLaws.{CenterNear, OnFrame}
 use Rattle.placing.specs.Focus.{focusOf}
 use Rattle.placing.specs.Load.{Focus, noPoint}
+use Rattle.shape.specs.Shape.{difference, longestSide}
 use Rattle.sheet.specs.declared.Sheet.{Sheet}
 use Rattle.sheet.specs.Sheet.{freshSheet}
 use Rattle.journal.specs.Journal.{Change, cut, orient, Journal, empty, holds, frameBy, pointBy, staysListed, presentFrame, listing, primaryIndex, primaryOf, primaryAfter, fitted, Answer, no, ok, numbers, head}
@@ -134,8 +135,17 @@ pub record GoodCut (left top width height : ℕ) (f : Size) : Type 0 where
   pub across : left + width ≤ f .width
   pub down : top + height ≤ f .height
 
+-- 19: the two products of the frame's and the box's sides differ by more than the longest of the four
+abbrev pub OtherShape : Size → Size → Type 0
+OtherShape f box = longestSide f box < difference (f .width * box .height) (f .height * box .width)
+
+-- a box that is neither 12 nor 19: 02's accepted box
+pub record GoodBox (f box : Size) : Type 0 where
+  pub no-zero-side : hasZeroSide box ≡ false
+  pub same-shape : difference (f .width * box .height) (f .height * box .width) ≤ longestSide f box
+
 -- when a number is the lowest that applies to a call, from what the journal holds: "Load can give 1 to 6; cut 7 to 10; .. back 7, 11;
--- list 7, 13; fit 7, 12, 13"; 02: an orientation is "judged by 7, 8 and 15"
+-- list 7, 13; fit 7, 12, 13"; 02: an orientation is "judged by 7, 8 and 15", and 19 is "between 12 and 13"
 pub data Refuses : Journal → Call → ℕ → Type 0 where
   -- 1 to 6, as demand 2 says
   notLoaded : {j : Journal} {block : List ℕ} {raw picture : OptionalSize} {model : List ℕ} {n : ℕ}
@@ -159,10 +169,13 @@ pub data Refuses : Journal → Call → ℕ → Type 0 where
   -- "box for fitting has a zero side"
   zeroBox : {f : Focus} {standing : List Change} {box : Size} {buffer : List ℕ} → hasZeroSide box ≡ true
       → Refuses (holds f standing) (fit box buffer) 12
+  -- 02: "shapes differ", of the present frame and the box
+  shapesDiffer : {f : Focus} {standing : List Change} {box : Size} {buffer : List ℕ} → hasZeroSide box ≡ false
+      → OtherShape (presentFrame f standing) box → Refuses (holds f standing) (fit box buffer) 19
   -- "buffer shorter than 6 × count"
   short : {f : Focus} {standing : List Change} {buffer : List ℕ} → length buffer < 6 * length (listing f standing)
       → Refuses (holds f standing) (list buffer) 13
-  shortFit : {f : Focus} {standing : List Change} {box : Size} {buffer : List ℕ} → hasZeroSide box ≡ false
+  shortFit : {f : Focus} {standing : List Change} {box : Size} {buffer : List ℕ} → GoodBox (presentFrame f standing) box
       → length buffer < 6 * length (listing f standing) → Refuses (holds f standing) (fit box buffer) 13
 
 -- a call is refused exactly when its refusals say
@@ -184,11 +197,11 @@ LoadOnAny =
     (calls : List Call) → runSheet s (load block raw picture model ∷ calls) ≡ ok [] [] ∷ runJournal (holds f []) calls
 
 -- ---- fit
--- what fit gives and writes, in a box without a zero side: each point of the listing scaled from the present frame
+-- what fit gives and writes, in an accepted box: each point of the listing scaled from the present frame
 abbrev pub FitsExactly : Type 0
 FitsExactly =
     (calls : List Call) (f : Focus) (standing : List Change) → after calls ≡ holds f standing →
-    (box : Size) → hasZeroSide box ≡ false →
+    (box : Size) → GoodBox (presentFrame f standing) box →
     (buffer : List ℕ) → 6 * length (shown f standing) ≤ length buffer →
     answer calls (fit box buffer) ≡
     ok (head f standing box (fitted f standing box))
@@ -199,8 +212,9 @@ pub record FittedNear (f : Focus) (standing : List Change) (box : Size) (i : ℕ
   pub half-pixel : CenterNear (getD (listing f standing) i noPoint .center) (presentFrame f standing) box (getD (fitted f standing box) i noPoint .center)
   pub on-box : OnFrame box (getD (fitted f standing box) i noPoint .center)
 
+-- "The half pixel bound covers accepted boxes only."
 abbrev pub FitIsNear : Type 0
 FitIsNear =
     (calls : List Call) (f : Focus) (standing : List Change) → after calls ≡ holds f standing →
-    (box : Size) → hasZeroSide box ≡ false → box .width ≤ 4294967295 → box .height ≤ 4294967295 →
+    (box : Size) → GoodBox (presentFrame f standing) box → box .width ≤ 4294967295 → box .height ≤ 4294967295 →
     (i : ℕ) → i < length (listing f standing) → FittedNear f standing box i

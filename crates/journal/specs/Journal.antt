@@ -1,6 +1,7 @@
 -- 01, "Book": what the calls alone say. The journal is fed each call with its arguments, except the sheet, and every answer is
 -- worked out from what it holds. Of the sheet it knows nothing: the two share what one load gives, when a point fits a frame, how
--- it is scaled, and 01's numbers for modes, origins and in-focus. 02's orientations are here in the journal's own words.
+-- it is scaled, when a box has a frame's shape, and 01's numbers for modes, origins and in-focus. 02's orientations are here in the
+-- journal's own words.
 use Prim.Native.Nat.{ℕ, _+_, _-_, _*_}
 use mathlib.Core.Bool.{Bool, true, false, _&&_, _||_, cond}
 use mathlib.Core.List.{List, [], _∷_, _++_, map}
@@ -14,6 +15,7 @@ use Rattle.placing.specs.declared.focus.FocusPoint.{FocusPoint}
 use Rattle.placing.specs.Fit.{hasZeroSide, pointFits}
 use Rattle.placing.specs.Scale.{scaledPoint}
 use Rattle.placing.specs.Load.{Focus, noPoint, originNumber}
+use Rattle.shape.specs.Shape.{sameShape}
 
 -- an edit: "Cut left, top, width, height", or an orientation with its number
 pub data Change : Type 0 where
@@ -242,8 +244,11 @@ journalList empty buffer = no 7 buffer
 journalList (holds load standing) buffer =
     written load standing (presentFrame load standing) (listing load standing) buffer
 
--- "Fit answers and writes as list does, with the box as frame"; 12: "box for fitting has a zero side"
+-- "Fit answers and writes as list does, with the box as frame"; 12: "box for fitting has a zero side"; 02: "19, shapes differ, between 12
+-- and 13", the frame being the present one
 unfoldable pub journalFit : Journal → Size → List ℕ → Answer
 journalFit empty box buffer = no 7 buffer
 journalFit (holds load standing) box buffer =
-    cond (hasZeroSide box) (no 12 buffer) (written load standing box (fitted load standing box) buffer)
+    cond (hasZeroSide box) (no 12 buffer)
+    (cond (sameShape (presentFrame load standing) box) (written load standing box (fitted load standing box) buffer)
+    (no 19 buffer))

@@ -1,28 +1,43 @@
 -- The laws of the test of shapes, and its examples. The idea: products are taken as numbers, of which the test is linear; where both
 -- products are one, nothing is between them. Assumes nothing.
-use Prim.Native.Nat.{ℕ, _+_, _*_, _≤_}
-use mathlib.Core.Bool.{true}
+use Prim.Native.Nat.{ℕ, _+_, _*_, _≤_, _<_}
+use mathlib.Core.Bool.{true, false}
 use mathlib.Core.Path.{_≡_, refl, sym, ap₂, _∙_}
 use lib.Dec.{leb}
 use native.Mathlib.Nat.{mul-comm, mul-assoc}
 use native.Mathlib.Omega.{arith}
-use borrow.Author.Tests.{le-leb, leb-true}
+use borrow.Author.Tests.{le-leb, lt-leb, leb-true, leb-false}
 use Rattle.reading.specs.declared.geometry.Size.{Size}
 use Rattle.placing.specs.Fit.{swapped}
 use Rattle.shape.specs.Shape.{difference, longestSide, sameShape}
 use Rattle.shape.specs.ShapeLaws.{NearInShape, ToldByProducts, times, OwnShape, TimesShape, EitherWay, BothSwapped, rowsAgree, ShapeExamples}
 
+-- the test, in numbers
+module _ (f b : Size) where
+  abbrev apart : ℕ
+  apart = difference (f .width * b .height) (f .height * b .width)
+
+  pub same-told : sameShape f b ≡ true → apart ≤ longestSide f b
+  unfolding sameShape
+  same-told e = leb-true apart (longestSide f b) e
+
+  pub same-of : apart ≤ longestSide f b → sameShape f b ≡ true
+  unfolding sameShape
+  same-of l = le-leb apart (longestSide f b) l
+
+  pub other-told : sameShape f b ≡ false → longestSide f b < apart
+  unfolding sameShape
+  other-told e = leb-false apart (longestSide f b) e
+
+  pub other-of : longestSide f b < apart → sameShape f b ≡ false
+  unfolding sameShape
+  other-of l = lt-leb apart (longestSide f b) l
+
 near : (f b : Size) → sameShape f b ≡ true → NearInShape f b
-unfolding sameShape
-near f b e =
-    let l = leb-true (difference (f .width * b .height) (f .height * b .width)) (longestSide f b) e in
-    record { above = omega arith; below = omega arith }
+near f b e = let l = same-told f b e in record { above = omega arith; below = omega arith }
 
 same : (f b : Size) → NearInShape f b → sameShape f b ≡ true
-unfolding sameShape
-same f b n =
-    let l : difference (f .width * b .height) (f .height * b .width) ≤ longestSide f b = omega (arith, n .above, n .below) in
-    le-leb (difference (f .width * b .height) (f .height * b .width)) (longestSide f b) l
+same f b n = same-of f b (omega (arith, n .above, n .below))
 
 pub told-by-products : ToldByProducts
 told-by-products f b = (near f b, same f b)
