@@ -28,6 +28,7 @@ use Rattle.placing.specs.declared.load.FocusAnswer.{FocusAnswer}
 use Rattle.placing.specs.declared.load.FocusAnswer.the-variants as load-answer
 use Rattle.placing.specs.Laid.{refusalNumber, loadMeans}
 use Rattle.placing.specs.Focus.{focusOf}
+use Rattle.shape.specs.Shape.{sameShape}
 use Rattle.calls.specs.declared.Call.{Call as Parsed}
 use Rattle.calls.specs.Format.{callOf, callMeans}
 use Rattle.sheet.specs.declared.Sheet.{Sheet}
@@ -149,7 +150,9 @@ pub most-fit : (s : Sheet) (box : Size) (m : ℕ) (x : ListAnswer) → listMeans
 unfolding fitOutcome
 most-fit s box m x e =
     rw e
-    (by-cond atMost39 (usable s) (λ h. by-cond atMost39 (hasZeroSide box) (λ z. tt) (λ z. most-listed s box m h)) (λ h. tt))
+    (by-cond atMost39 (usable s)
+    (λ h. by-cond atMost39 (hasZeroSide box) (λ z. tt) (λ z. by-cond atMost39 (sameShape (presentFrame s) box) (λ t. most-listed s box m h) (λ t. tt)))
+    (λ h. tt))
 
 pub most-of-listed : (x : ListAnswer) (l : ListHead) → x ≡ Listed l → atMost39 (listMeans x) → (l .count ≤ 39) × (l .index ≤ 39)
 unfolding headNumbers

@@ -75,6 +75,7 @@ fn put_list(out: &mut [u8], at: usize, answer: ListAnswer, words: &[u32]) -> usi
     match answer {
         ListAnswer::Empty => answers::put_no(out, at, 7),
         ListAnswer::ZeroBox => answers::put_no(out, at, 12),
+        ListAnswer::ShapesDiffer => answers::put_no(out, at, 19),
         ListAnswer::Short => answers::put_no(out, at, 13),
         ListAnswer::Listed(l) => put_listing(out, at, l, words),
     }

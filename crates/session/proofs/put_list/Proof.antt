@@ -1,7 +1,7 @@
 -- `put_list`: by cases on the answer. Assumes nothing.
 use mathlib.Core.Path.{refl}
 use Rattle.session.proofs.Texts as texts
-use Rattle.sheet.specs.declared.listing.ListAnswer.the-variants.{Empty, ZeroBox, Short}
+use Rattle.sheet.specs.declared.listing.ListAnswer.the-variants.{Empty, ZeroBox, ShapesDiffer, Short}
 use borrow.Author.Needs.{needs}
 use Rattle.session.proofs.put_list.Statement.{statement}
 use Rattle.session.proofs.put_list.Tie as tie
@@ -23,6 +23,12 @@ enum-told-3 c = search needs
 
 put-no-requires-3 : tie.Need-put-no-requires-3
 put-no-requires-3 c κs = search needs
+
+enum-told-4 : tie.Need-enum-told-4
+enum-told-4 c = search needs
+
+put-no-requires-4 : tie.Need-put-no-requires-4
+put-no-requires-4 c κs = search needs
 
 enum-known-answer : tie.Need-enum-known-answer
 enum-known-answer c = search needs
@@ -46,13 +52,19 @@ same-length-3 : tie.Need-same-length-3
 same-length-3 c = search needs
 
 returns-3 : tie.Need-returns-3
-returns-3 c = texts.list-no _ Short _ 13 (c .before .before .before .before .enum-told3 .given .1) refl (c .before .before .put-no3 .ensures)
+returns-3 c = texts.list-no _ ShapesDiffer _ 19 (c .before .before .before .before .enum-told3 .given .1) refl (c .before .before .put-no3 .ensures)
 
 same-length-4 : tie.Need-same-length-4
 same-length-4 c = search needs
 
 returns-4 : tie.Need-returns-4
-returns-4 c = texts.list-yes _ _ _ (c .before .before .before .before .before .answer .given .1) (c .before .before .put-listing .ensures)
+returns-4 c = texts.list-no _ Short _ 13 (c .before .before .before .before .enum-told4 .given .1) refl (c .before .before .put-no4 .ensures)
+
+same-length-5 : tie.Need-same-length-5
+same-length-5 c = search needs
+
+returns-5 : tie.Need-returns-5
+returns-5 c = texts.list-yes _ _ _ (c .before .before .before .before .before .answer .given .1) (c .before .before .put-listing .ensures)
 
 pub put-list-spec : {M : Type 1} → statement M
 put-list-spec =
@@ -64,6 +76,8 @@ put-list-spec =
     put-no-requires-2
     enum-told-3
     put-no-requires-3
+    enum-told-4
+    put-no-requires-4
     enum-known-answer
     put-listing-requires
     same-length
@@ -73,4 +87,6 @@ put-list-spec =
     same-length-3
     returns-3
     same-length-4
-    returns-4)
+    returns-4
+    same-length-5
+    returns-5)
