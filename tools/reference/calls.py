@@ -281,8 +281,7 @@ class Run:
         elif kind == "list":
             self.add(show(self.some_places()))
         elif kind == "fit":
-            box = [chance.choice([0, 1, 2, 37, 100, 640, 424, 1000, 6016, 4294967295]) for _ in range(2)]
-            self.add(fit(*box, self.some_places()))
+            self.add(fit(*stored.a_box(chance, book), self.some_places()))
         elif kind == "keep":
             self.add(keep(self.a_name()))
         elif kind == "return":
