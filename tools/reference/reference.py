@@ -242,12 +242,15 @@ def scale_point(point, old, new):
     return point._replace(x=x, y=y, width=width, height=height)
 
 
+def shape_difference(frame, box):
+    """'|frame width × box height − frame height × box width|'."""
+    return abs(frame[0] * box[1] - frame[1] * box[0])
+
+
 def same_shape(frame, box):
-    """'A box is now accepted only if |frame width × box height − frame height ×
-    box width| is at most the longest of the four sides'."""
-    (frame_width, frame_height), (box_width, box_height) = frame, box
-    difference = abs(frame_width * box_height - frame_height * box_width)
-    return difference <= max(frame_width, frame_height, box_width, box_height)
+    """'A box is now accepted only if' that difference 'is at most the longest of
+    the four sides'."""
+    return shape_difference(frame, box) <= max(*frame, *box)
 
 
 # -------------------------------------------------------- recorded position
