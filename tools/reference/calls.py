@@ -9,8 +9,8 @@ reference.py, which is fed the calls alone. The front of the list has every
 answer among its own, every orientation, boxes whose shape is just the frame's and
 just not, and names that are easily taken for each other, each with what is kept
 under it; behind it come COUNT calls by chance. The loads are those that are
-stored for placing_test, and those of orientations.py and boxes.py. What is stored is of seed 1 and count 900, which are taken if
-none are given.
+stored for placing_test, and those of orientations.py and boxes.py. What is stored
+is of seed 1 and count 900, which are taken if none are given.
 """
 
 import collections
@@ -126,7 +126,7 @@ def any_load():
     accepted = [given for given, _ in loads()["ok"]]
     many = [given for given, placed in loads()["ok"] if len(placed.points) > 4]
     extreme = [orientations.CORNER, boxes.WIDE, boxes.LARGEST]
-    return refused + accepted + many * (len(refused) // len(many) + 1) + extreme * (len(refused) // 30)
+    return refused + accepted + many * (len(refused) // len(many) + 1) + extreme * (len(refused) // 10)
 
 
 # -------------------------------------------------------------- lists of calls

@@ -30,7 +30,8 @@ import stored
 
 MAX_U32 = reference.MAX_U32
 SIZES = [None, None, (0, 0), (0, 7), (5, 0), reference.MEDIUM_PICTURE, reference.DX_FRAME, reference.WHOLE_FRAME,
-         (3008, 2008), (4512, 3007), (3935, 2624), (MAX_U32, MAX_U32), (1, 1)]
+         (3008, 2008), (4512, 3007), (3935, 2624), (MAX_U32, MAX_U32), (MAX_U32 - 1, MAX_U32), (MAX_U32, 2),
+         (1, 1)]
 MODELS = [b"", b"NIKON D60", b"NIKON D6000", b"NIKON D600 ", b" NIKON D600", b"NIKON D600\0", b"NIKON D610",
           b"nikon d600", b"NIKON D601", b"N" * 255]
 EDGES = [block for _, block in readers.cases() if len(block) <= 2000]

@@ -807,7 +807,7 @@ def shape_checks():
         return book
 
     whole, on_its_side = book_of(), book_of(TURN_CALL)
-    cut = book_of(("cut", 2900, 1900, 400, 300))
+    cut, square = book_of(("cut", 2900, 1900, 400, 300)), book_of(("cut", 2900, 1900, 400, 400), TURN_CALL)
     return [
         # For a frame of 7 by 5 it is 7 * height - 5 * width; the longest side is the frame's 7, then that of the box.
         ("one below: 6, -6; -11, 12", judged((7, 5), (3, 3), (4, 2), (12, 7), (13, 11)), [True] * 8),
@@ -824,6 +824,8 @@ def shape_checks():
         ("the load's frame on its side", fitted(on_its_side, (6016, 4016), (300, 200)), [no(19)] * 2),
         ("the present one", fitted(on_its_side, (4016, 6016), (200, 300)), [[1, 2009, 3008, 164, 164, 0], [1, 100, 150, 8, 8, 0]]),
         ("the frame of a cut", fitted(cut, (6016, 4016), (300, 200), (40, 30)), [no(19), no(19), [1, 11, 11, 16, 16, 0]]),
+        ("a square on its side", fitted(square, (400, 400), (40, 41), (40, 42)),
+         [[1, 293, 108, 164, 164, 0], [1, 29, 11, 16, 17, 0], no(19)]),
         ("12 before 19 and 13", fitted(whole, (0, 4016), (6016, 0), (0, 0), places=0), [no(12)] * 3),
         ("19 before 13", fitted(whole, (6016, 6016), (376, 253), places=5), [no(19)] * 2),
         ("13 after it", fitted(whole, (6016, 4016), (376, 252), places=5), [no(13)] * 2),
