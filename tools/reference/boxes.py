@@ -28,13 +28,13 @@ NAMED = (None, None, reference.MODEL, demos.named_block("big", 10, 0))
 # In frames of the longest sides: on the lower edge and without an area, and with one.
 WIDE, LARGEST = scaled_to(MOST, 2), scaled_to(MOST, MOST - 1)
 
-# A photograph, a cut of it or none, and boxes: width, height, how far off. At most the longest of the four sides may be.
+# A photograph, a cut of it or none, and boxes: width, height, how far off, which may be as much as the longest of the four sides.
 FITS = (
-    # 6016 by 4016: multiples, the last by 713,924; the most that it may be off; by little; by too much; the sides exchanged.
+    # 6016 by 4016: multiples of 376 by 251, the last as large as they come; off by the most, by less, by too much; the sides exchanged.
     (NAMED, None, (
         (6016, 4016, 0), (376, 251, 0), (4294966784, 2867118784, 0), (376, 252, 6016), (376, 250, 6016), (300, 200, 1600), (1, 1, 2000),
         (4294967295, 2867119125, 720), (376, 253, 12032), (376, 249, 12032), (3, 1, 6032), (1200, 800, 6400), (4016, 6016, 20064000))),
-    # 503 by 400: one below, at and above the frame's 503; then the box's width, twice each.
+    # 503 by 400: one below, at and above the frame's 503, twice each; then the box's width.
     (NAMED, (3000, 2300, 503, 400), (
         (210, 166, 502), (293, 234, 502), (503, 399, 503), (503, 401, 503), (293, 232, 504), (210, 168, 504),
         (740, 587, 739), (646, 515, 645), (1006, 798, 1006), (1006, 802, 1006), (769, 610, 770), (863, 688, 864))),
@@ -45,8 +45,9 @@ FITS = (
     # 4294967295 by 2, and by 1.
     (WIDE, None, ((1, 1, MOST - 2), (MOST, 1, MOST), (MOST, 3, MOST), (MOST - 1, 3, MOST + 2), (MOST, MOST, MOST * MOST - 2 * MOST))),
     (WIDE, (0, 1, MOST, 1), ((1, 1, MOST - 1), (MOST, 2, MOST), (MOST - 1, 2, MOST + 1), (2, MOST, MOST * MOST - 2))),
-    # 4294967295 by 4294967294.
-    (LARGEST, None, ((MOST - 1, MOST - 1, MOST - 1), (MOST, MOST, MOST), (1, 2, MOST + 1), (2, 1, MOST - 2), (MOST, MOST - 3, 2 * MOST))),
+    # 4294967295 by 4294967294; the last box's products lie on either side of 2 to the 63rd.
+    (LARGEST, None, ((MOST - 1, MOST - 1, MOST - 1), (MOST, MOST, MOST), (1, 2, MOST + 1), (2, 1, MOST - 2), (MOST, MOST - 3, 2 * MOST),
+                     (2147483649, 2147483649, 2147483649))),
 )
 
 
