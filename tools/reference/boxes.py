@@ -30,10 +30,10 @@ WIDE, LARGEST = scaled_to(MOST, 2), scaled_to(MOST, MOST - 1)
 
 # A photograph, a cut of it or none, and boxes: width, height, how far off, which may be as much as the longest of the four sides.
 FITS = (
-    # 6016 by 4016: multiples of 376 by 251, the last as large as they come; off by the most, by less, by too much; the sides exchanged.
+    # 6016 by 4016: itself, a part, its largest multiple; off by the most, by less, by too much; the sides exchanged.
     (NAMED, None, (
-        (6016, 4016, 0), (376, 251, 0), (4294966784, 2867118784, 0), (376, 252, 6016), (376, 250, 6016), (300, 200, 1600), (1, 1, 2000),
-        (4294967295, 2867119125, 720), (376, 253, 12032), (376, 249, 12032), (3, 1, 6032), (1200, 800, 6400), (4016, 6016, 20064000))),
+        (6016, 4016, 0), (376, 251, 0), (4294966784, 2867118784, 0), (376, 252, 6016), (376, 250, 6016), (300, 200, 1600),
+        (1, 1, 2000), (4294967295, 2867119125, 720), (376, 253, 12032), (376, 249, 12032), (3, 1, 6032), (1200, 800, 6400), (4016, 6016, 20064000))),
     # 503 by 400: one below, at and above the frame's 503, twice each; then the box's width.
     (NAMED, (3000, 2300, 503, 400), (
         (210, 166, 502), (293, 234, 502), (503, 399, 503), (503, 401, 503), (293, 232, 504), (210, 168, 504),
@@ -43,11 +43,12 @@ FITS = (
     (orientations.CORNER, (0, 1, 3, 1), ((1, 1, 2), (3, 2, 3), (2, 2, 4), (7, 1, 4), (7, 5, 8), (8, 5, 7))),
     (orientations.CORNER, (0, 0, 1, 2), ((1, 1, 1), (2, 1, 3), (1, MOST, MOST - 2), (2, MOST, MOST - 4), (MOST, MOST, MOST))),
     # 4294967295 by 2, and by 1.
-    (WIDE, None, ((1, 1, MOST - 2), (MOST, 1, MOST), (MOST, 3, MOST), (MOST - 1, 3, MOST + 2), (MOST, MOST, MOST * MOST - 2 * MOST))),
+    (WIDE, None, ((1, 1, MOST - 2), (MOST, 1, MOST), (MOST, 3, MOST), (MOST - 1, 3, MOST + 2),
+                  (MOST, MOST, MOST * MOST - 2 * MOST))),
     (WIDE, (0, 1, MOST, 1), ((1, 1, MOST - 1), (MOST, 2, MOST), (MOST - 1, 2, MOST + 1), (2, MOST, MOST * MOST - 2))),
     # 4294967295 by 4294967294; the last box's products lie on either side of 2 to the 63rd.
-    (LARGEST, None, ((MOST - 1, MOST - 1, MOST - 1), (MOST, MOST, MOST), (1, 2, MOST + 1), (2, 1, MOST - 2), (MOST, MOST - 3, 2 * MOST),
-                     (2147483649, 2147483649, 2147483649))),
+    (LARGEST, None, ((MOST - 1, MOST - 1, MOST - 1), (MOST, MOST, MOST), (1, 2, MOST + 1), (2, 1, MOST - 2),
+                     (MOST, MOST - 3, 2 * MOST), (2147483649, 2147483649, 2147483649))),
 )
 
 
@@ -59,7 +60,7 @@ def is_accepted(frame, width, height, off):
 
 
 def nearest(v, old, new):
-    """v scaled, in the nearest pixel."""
+    """v scaled, in the nearest pixel; a half goes up."""
     return math.floor(fractions.Fraction(v * new, old) + fractions.Fraction(1, 2))
 
 
@@ -95,8 +96,9 @@ def pairs():
             now = orientations.oriented(placed, number)
             for *box, off in boxes:
                 box = box[::way]
-                if reference.shape_difference(now.frame, box) != off:
-                    sys.exit("%s in %s: here %d off, the reference %d" % (box, now.frame, off, reference.shape_difference(now.frame, box)))
+                own = reference.shape_difference(now.frame, box)
+                if own != off:
+                    sys.exit("%s in %s: here %d off, the reference %d" % (box, now.frame, off, own))
                 yield script.fit(*box), orientations.shown(fitted(now, box)) if is_accepted(now.frame, *box, off) else "no 19"
         yield script.fit(*placed.frame), "no 19"
         yield script.fit(placed.frame[0], 0), "no 12"

@@ -142,7 +142,7 @@ def recorded():
     # width  floor((267 * 200 + 400) / 800) = floor(67.25) = 67
     # height floor((225 * 150 + 300) / 600) = floor(56.75) = 56
     yield script.fit(200, 150), "frame 200 150 points 1 primary 0 mode 4 origin 1\n0 76 75 67 56 2"
-    # A box may be off by as much as the longest of the four sides, here 800. One of 200 by 151 just is: 800 * 151 - 600 * 200 = 800.
+    # A box may be off by the longest of the four sides, here 800, and one of 200 by 151 is: 800 * 151 - 600 * 200 = 800.
     # y      floor((301 * 151 + 300) / 600) = floor(76.25) = 76
     # height floor((225 * 151 + 300) / 600) = floor(57.125) = 57
     yield script.fit(200, 151), "frame 200 151 points 1 primary 0 mode 4 origin 1\n0 76 76 67 57 2"

@@ -819,10 +819,12 @@ def shape_checks():
         ("a difference of 2 to the 32nd", judged((65536, 65536), (65536, 131072)), [False] * 2),
         ("a box that is off by a little", fitted(whole, (300, 200)), [[1, 150, 100, 8, 8, 0]]),  # 1600 <= 6016
         # 6016 * 252 - 4016 * 376 = 6016; with 250, -6016.
-        ("a box that is off by the most", fitted(whole, (376, 252), (376, 250)), [[1, 188, 126, 10, 10, 0], [1, 188, 125, 10, 10, 0]]),
+        ("a box that is off by the most", fitted(whole, (376, 252), (376, 250)),
+         [[1, 188, 126, 10, 10, 0], [1, 188, 125, 10, 10, 0]]),
         ("boxes of another shape", fitted(whole, (376, 253), (376, 249), (1200, 800), (4016, 6016)), [no(19)] * 4),
         ("the load's frame on its side", fitted(on_its_side, (6016, 4016), (300, 200)), [no(19)] * 2),
-        ("the present one", fitted(on_its_side, (4016, 6016), (200, 300)), [[1, 2009, 3008, 164, 164, 0], [1, 100, 150, 8, 8, 0]]),
+        ("the present one", fitted(on_its_side, (4016, 6016), (200, 300)),
+         [[1, 2009, 3008, 164, 164, 0], [1, 100, 150, 8, 8, 0]]),
         ("the frame of a cut", fitted(cut, (6016, 4016), (300, 200), (40, 30)), [no(19), no(19), [1, 11, 11, 16, 16, 0]]),
         ("a square on its side", fitted(square, (400, 400), (40, 41), (40, 42)),
          [[1, 293, 108, 164, 164, 0], [1, 29, 11, 16, 17, 0], no(19)]),

@@ -90,8 +90,8 @@ def a_box(chance, book):
 
 
 def box_at_the_edge(chance, frame):
-    """A box whose shape differs from the frame's by the longest side, or by the next less or more that there is; the frame if none is
-    found."""
+    """A box whose shape differs from the frame's by the longest side, or by the next less or more that there is; the frame if
+    none is found."""
     long, short = max(frame), min(frame)
     for _ in range(9):
         # For the box's sides x and y, |long * y - short * x| is to be the longest side: long * y = factor * x + rest.
