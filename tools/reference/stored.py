@@ -82,7 +82,8 @@ def a_box(chance, book):
         times = min(most, chance.choice([1, 1, 2, 3, 10, most, chance.randrange(1, most + 1)]))
         box = [side * times for side in frame]
     else:
-        to = chance.choice(SIDES + [1, 2, 5, 10, chance.randrange(1, longest + 1), chance.randrange(1, longest + 1)])
+        small = chance.randrange(3, 40)
+        to = chance.choice([1, 2, small, small, chance.choice(SIDES), chance.randrange(1, longest + 1)])
         box = [max(1, reference.scale(side, longest, to)) for side in frame]
     if chance.random() < 0.5:
         box[chance.randrange(2)] += chance.choice([-1, 1])
