@@ -57,6 +57,19 @@ static const char answers[] =
 static const char refused[] = "0900F7\n" LOAD "0900F7\n" "0909EE\n" "09FFF8\n" "03FD\n" "04FC\n" "09F7\n" "090606EB\n";
 static const char refusals[] = "no 7\nok\nno 15\nno 15\nno 15\nno 14\nno 14\nno 14\nno 14\n";
 
+/* Fits in 6016 by 4016: a box may be off by 6016, and one of 376 by 252 is, but not one of 376 by 253; with a zero side it is 12 before
+ * it is 19. In 4016 by 6016 it is to be on its side. */
+#define FIT_376_252 "0700000178000000FC84\n"
+#define FIT_376_253 "0700000178000000FD83\n"
+#define FIT_252_376 "07000000FC0000017884\n"
+#define FIT_0_253 "0700000000000000FDFC\n"
+static const char fits[] = FIT_376_252 LOAD FIT_376_252 FIT_376_253 FIT_0_253 TURN FIT_376_252 FIT_252_376;
+static const char fitted[] =
+    "no 7\nok\n"
+    "frame 376 252 points 2 primary 0 mode 1 origin 2\n1 188 126 10 10 0\n16 218 126 10 10 0\n"
+    "no 19\nno 12\nok\nno 19\n"
+    "frame 252 376 points 2 primary 0 mode 1 origin 2\n1 126 188 10 10 0\n16 126 218 10 10 0\n";
+
 static uint32_t out[1000];
 
 static void mark(void)
@@ -127,7 +140,7 @@ static void photograph(void)
 
 static void script(void)
 {
-    uint8_t text[sizeof answers + 9];
+    uint8_t text[sizeof answers + 9], more[sizeof fitted];
     const size_t len = sizeof answers - 1;
 
     memset(text, 0xAB, sizeof text);
@@ -144,6 +157,8 @@ static void script(void)
     EXPECT(focuspoints_script(BYTES("\n"), text, sizeof text) == 6 && memcmp(text, "no 14\n", 6) == 0);
     EXPECT(focuspoints_script(BYTES(refused), text, sizeof text) == sizeof refusals - 1);
     EXPECT(memcmp(text, refusals, sizeof refusals - 1) == 0);
+    EXPECT(focuspoints_script(BYTES(fits), more, sizeof more) == sizeof fitted - 1);
+    EXPECT(memcmp(more, fitted, sizeof fitted - 1) == 0);
 }
 
 static void contents(void)

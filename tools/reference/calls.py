@@ -6,11 +6,11 @@ calls.py --answers < CALLS       print what workspace_test must print for these 
 Writes a list of calls for the program workspace_test, stdin of that crate, and
 what it must print, its stdout: the answers and buffers of the book of
 reference.py, which is fed the calls alone. The front of the list has every
-answer among its own, every orientation, and names that are easily taken for each
-other, each with what is kept under it; behind it come COUNT calls by chance. The loads
-are those that are stored for placing_test, and at the front those of
-orientations.py. What is stored is of seed 1 and count 900, which are taken if
-none are given.
+answer among its own, every orientation, boxes whose shape is just the frame's and
+just not, and names that are easily taken for each other, each with what is kept
+under it; behind it come COUNT calls by chance. The loads are those that are
+stored for placing_test, and those of orientations.py and boxes.py. What is stored
+is of seed 1 and count 900, which are taken if none are given.
 """
 
 import collections
@@ -23,6 +23,7 @@ import sys
 
 sys.dont_write_bytecode = True
 
+import boxes
 import lines
 import orientations
 import reference
@@ -120,11 +121,12 @@ def loads():
 
 @functools.lru_cache(maxsize=None)
 def any_load():
-    """Loads to draw from: refused ones, accepted ones, and again those with many points."""
+    """Loads to draw from: refused ones, accepted ones, and again those with many points and in frames of extreme sides."""
     refused = [given for name, some in loads().items() if name != "ok" for given, _ in some]
     accepted = [given for given, _ in loads()["ok"]]
     many = [given for given, placed in loads()["ok"] if len(placed.points) > 4]
-    return refused + accepted + many * (len(refused) // len(many) + 1)
+    extreme = [orientations.CORNER, boxes.WIDE, boxes.LARGEST]
+    return refused + accepted + many * (len(refused) // len(many) + 1) + extreme * (len(refused) // 10)
 
 
 # -------------------------------------------------------------- lists of calls
@@ -139,18 +141,35 @@ def every_answer():
     for given in orientations.PHOTOGRAPHS:
         yield load(*given)
         yield from (BACK, cut(0, 0, 0, 1), cut(0, 0, 4294967295, 1), cut(0, 0, 1, 1), orient(0), orient(9), orient(255))
-        yield from (fit(0, 1, 0), fit(1, 0, 9), show(0), fit(1, 1, 0))
+        yield from (fit(0, 1, 0), fit(1, 0, 9), fit(1, 9, 0), show(0), fit(1, 1, 0))  # 12, 19 before 13
         for number in orientations.EIGHT:
-            yield from (orient(number), show(30), fit(300, 200, 30), BACK)
+            yield from (orient(number), show(30), fit(300, 200, 30), fit(200, 300, 30), BACK)
         yield BACK
     # All points of the table behind as many edits as may stand: 8 before 9 and 15, and 15 after a back.
     yield load(*max(loads()["ok"], key=lambda load: len(load[1].points))[0])
     for i in range(reference.MAX_EDITS):
         yield orient((i * i + i // 3) % 8 + 1)
     yield from (show(ENOUGH), orient(1), orient(0), orient(9), cut(0, 0, 0, 0), BACK, orient(0), show(ENOUGH), orient(8), orient(9))
+    yield from (fit(300, 200, ENOUGH), fit(200, 300, ENOUGH))
     for _ in range(reference.MAX_EDITS + 1):
         yield BACK
     yield show(ENOUGH)
+
+
+def shapes():
+    """Fits to the boxes of boxes.py: into a buffer just long enough, one too short, and with the photograph and the boxes on their
+    side; there the frame as it was has another shape."""
+    for given, some_cut, some in boxes.FITS:
+        yield load(*given)
+        if some_cut:
+            yield cut(*some_cut)
+        for width, height, _ in some:
+            yield from (fit(width, height, 6), fit(width, height, 5))
+        yield orient(6)
+        for width, height, _ in some:
+            yield fit(height, width, 6)
+        frame = some_cut[2:] if some_cut else stored.answer(given).frame
+        yield from (fit(*frame, 6), fit(*frame, 5), fit(frame[0], 0, 6), fit(*frame[::-1], 5), show(6), BACK, fit(*frame, 7))
 
 
 # Eight names: some that others begin with, two that a zero byte makes unlike, two that agree in 15 of 16 bytes.
@@ -230,7 +249,9 @@ def kept_edits():
     yield from (inside, keep(other), return_to(some), corner, inside, return_to(some), whole, BACK)
     yield from (return_to(other), whole, cut(0, 0, 501, 400), cut(0, 0, 500, 401), corner, show(30))
     yield from (return_to(other), orient(6), whole, cut(0, 0, 400, 500), show(30))
-    yield from (return_to(some), fit(300, 200, 30), return_to(other), fit(300, 200, 30))
+    # So is a box.
+    for name in (some, other):
+        yield from (return_to(name), fit(300, 200, 30), fit(250, 200, 30), orient(8), fit(200, 300, 30), fit(200, 250, 30))
 
 
 def behind_the_most():
@@ -281,8 +302,7 @@ class Run:
         elif kind == "list":
             self.add(show(self.some_places()))
         elif kind == "fit":
-            box = [chance.choice([0, 1, 2, 37, 100, 640, 424, 1000, 6016, 4294967295]) for _ in range(2)]
-            self.add(fit(*box, self.some_places()))
+            self.add(fit(*stored.a_box(chance, book), self.some_places()))
         elif kind == "keep":
             self.add(keep(self.a_name()))
         elif kind == "return":
@@ -333,10 +353,10 @@ def tally(answers):
 def files(seed, count):
     """The files, as (path, bytes)."""
     run = Run(seed)
-    for data in itertools.chain(every_answer(), around_loads(), kept_edits(), behind_the_most()):
+    for data in itertools.chain(every_answer(), shapes(), around_loads(), kept_edits(), behind_the_most()):
         run.add(data)
     front = tally(run.lines)
-    missing = [name for name in ["ok", "frame"] + ["no %d" % n for n in range(1, 19) if n != 14] if not front[name]]
+    missing = [name for name in ["ok", "frame"] + ["no %d" % n for n in range(1, 20) if n != 14] if not front[name]]
     if missing:
         sys.exit("no call of the front is answered %s" % ", ".join(missing))
     run.by_chance(count)

@@ -142,8 +142,14 @@ def recorded():
     # width  floor((267 * 200 + 400) / 800) = floor(67.25) = 67
     # height floor((225 * 150 + 300) / 600) = floor(56.75) = 56
     yield script.fit(200, 150), "frame 200 150 points 1 primary 0 mode 4 origin 1\n0 76 75 67 56 2"
-    # To a single pixel: x = floor((302 + 400) / 800) = 0, y = floor((301 + 300) / 600) = 1. Both sides come out as 0 and are
-    # raised to 1; the nearer of centre and frame - centre is 0 on both axes, so nothing is left of the area.
+    # A box may be off by the longest of the four sides, here 800, and one of 200 by 151 is: 800 * 151 - 600 * 200 = 800.
+    # y      floor((301 * 151 + 300) / 600) = floor(76.25) = 76
+    # height floor((225 * 151 + 300) / 600) = floor(57.125) = 57
+    yield script.fit(200, 151), "frame 200 151 points 1 primary 0 mode 4 origin 1\n0 76 76 67 57 2"
+    # 200 by 152 has another shape: 800 * 152 - 600 * 200 = 1600.
+    yield script.fit(200, 152), "no 19"
+    # To a single pixel, off by 800 - 600 = 200: x = floor((302 + 400) / 800) = 0, y = floor((301 + 300) / 600) = 1. Both sides come
+    # out as 0 and are raised to 1; the nearer of centre and frame - centre is 0 on both axes, so nothing is left of the area.
     yield script.fit(1, 1), "frame 1 1 points 1 primary 0 mode 4 origin 1\n0 0 1 0 0 2"
     # Fit leaves the sheet alone; back takes the cut off it.
     yield script.LIST, cut
@@ -214,7 +220,9 @@ def refusals():
     yield script.LIST, "frame 4016 6016 points 1 primary 0 mode 1 origin 2\n1 2007 3008 164 164 0"
     yield script.load(plain), "ok"
     yield script.BACK, "no 11"  # the load has replaced the edits
-    yield script.fit(0, 100), "no 12"
+    yield script.fit(0, 100), "no 12"  # and not 19
+    yield script.fit(1200, 800), "no 19"  # 4016 * 1200 - 6016 * 800 = 6400, and the longest side is 6016
+    yield script.fit(4016, 6016), "no 19"  # the frame on its side, as it was listed above
     body = script.load_body(None, None, reference.MODEL, plain)
     for malformed in (
         b"",  # an empty line
@@ -280,6 +288,10 @@ def files():
         if name == "whole-case":
             yield os.path.join("crates", "focusdesk", "stdin"), given[:-1]
             yield os.path.join("crates", "focusdesk", "stdout"), printed
+    # 13 is of shorter buffers, 16 to 18 are of keeps and returns.
+    missing = ["no %d" % n for n in (*range(1, 13), 14, 15, 19) if b"no %d" % n not in shown["refusals"].splitlines()]
+    if missing:
+        sys.exit("demo/refusals.txt does not show %s" % ", ".join(missing))
     text = stored.read("README.md")
     yield "README.md", readme(text, shown)
     there = [match[2] for match in SHOWN.finditer(text.decode())]

@@ -30,10 +30,10 @@ import stored
 
 MAX_U32 = reference.MAX_U32
 SIZES = [None, None, (0, 0), (0, 7), (5, 0), reference.MEDIUM_PICTURE, reference.DX_FRAME, reference.WHOLE_FRAME,
-         (3008, 2008), (4512, 3007), (3935, 2624), (MAX_U32, MAX_U32), (1, 1)]
+         (3008, 2008), (4512, 3007), (3935, 2624), (MAX_U32, MAX_U32), (MAX_U32 - 1, MAX_U32), (MAX_U32, 2),
+         (1, 1)]
 MODELS = [b"", b"NIKON D60", b"NIKON D6000", b"NIKON D600 ", b" NIKON D600", b"NIKON D600\0", b"NIKON D610",
           b"nikon d600", b"NIKON D601", b"N" * 255]
-SIDES = [0, 1, 2, 3, 37, 100, 400, 424, 640, 1000, 4016, 6016, 65535, 65536, MAX_U32 - 1, MAX_U32]
 EDGES = [block for _, block in readers.cases() if len(block) <= 2000]
 OTHER_TAGS = [0, 0, 0, 1, 6, 8, 0x46, 0xB8, 0x0700, 0x1B00, 0x4500, 0xB700, 0x0107, 0x01B7, 65535]
 PASSED_OVER = [0, 0, 14, 14, 15, 255, 256, 0x0107, 0x0700, 65535]
@@ -241,16 +241,6 @@ def around(chance, points, frame):
     return [edges[0][0], edges[1][0], edges[0][1], edges[1][1]]
 
 
-def a_box(chance, book):
-    if book.held is not None and chance.random() < 0.4:
-        width, height = book.frame()
-        by = chance.choice([1, 2, 3, 7, 10, 100])
-        return chance.choice([(width // by, height // by), (min(MAX_U32, width * by), min(MAX_U32, height * by)), (height, width)])
-    if chance.random() < 0.2:
-        return chance.choice([(0, 0), (0, 100), (100, 0), (0, MAX_U32)])
-    return tuple(chance.choice(SIDES[1:] + [chance.randrange(1, 9000)]) for _ in range(2))
-
-
 def some_entries(chance, count):
     """Entries of the four tags and others: intact, damaged, passed over."""
     for _ in range(count):
@@ -422,7 +412,7 @@ class Script:
         elif kind == "orient":
             self.add(script.orient(stored.an_orientation(chance)))
         elif kind == "fit":
-            self.add(script.fit(*a_box(chance, book)))
+            self.add(script.fit(*stored.a_box(chance, book)))
         elif kind == "contents":
             self.add(script.contents(a_contents(chance, self.path)))
         elif kind == "malformed":

@@ -5,10 +5,10 @@ malformed.py --check    say whether the files are what would be written
 Writes crates/script_test/stdin: lines that are malformed in every way, and
 the well-formed ones beside them, on an empty sheet and on one with a standing
 edit, the contents lines of demos.py, loads that runs against the Rust leave
-out, each with a list line after it, and the lines of orientations.py; and
-crates/script_test/stdout, what `focusdesk` must print. Which lines are
-malformed, and what the loads are answered, is said here, line by line; nothing
-is written if reference.py says otherwise. The last feed is missing.
+out, each with a list line after it, and the lines of orientations.py and
+boxes.py; and crates/script_test/stdout, what `focusdesk` must print. Which lines
+are malformed, and what the loads are answered, is said here, line by line;
+nothing is written if reference.py says otherwise. The last feed is missing.
 """
 
 import os
@@ -16,6 +16,7 @@ import sys
 
 sys.dont_write_bytecode = True
 
+import boxes
 import demos
 import orientations
 import readers
@@ -23,7 +24,7 @@ import reference
 import script
 import stored
 
-BLOCK = demos.named_block("big", 27, 1 << 0 | 1 << 37, (0, 8))
+BLOCK = demos.named_block("big", 27, 1 << 0, (0, 8))
 OTHER = demos.named_block("little", 2, 1 << 1)
 BODY = script.load_body(None, None, reference.MODEL, BLOCK)
 TURN, MIRROR = script.orient(6), script.orient(2)
@@ -57,7 +58,7 @@ def malformed():
     yield b"0" * 4097
     yield b" " * 4097
     yield TURN.ljust(4097)
-    yield TURN * 2000
+    yield TURN * 1400
     # As long as a line may be, and malformed otherwise.
     yield longest[:-2] + b"00"
     yield longest[:-1] + b"g"
@@ -130,7 +131,7 @@ def first_load():
 
 def well_formed():
     """Lines that come near to being malformed, with their answers."""
-    # Points 1, 27 and 38 after a turn, and in any case of letters.
+    # Points 1 and 27 after a turn, and in any case of letters.
     for way in (bytes.lower, bytes.upper, mixed):
         yield way(script.load(BLOCK)), "ok"
         yield way(TURN), "ok"
@@ -232,10 +233,8 @@ def edges():
 
 
 # The points of the load, and where a turn puts them: (x, y) at (4016 - y, x).
-LISTED = ("frame 6016 4016 points 3 primary 1 mode 3 origin 2\n"
-          "1 3008 2007 164 164 0\n27 4203 2308 164 164 0\n38 1812 1705 164 164 0")
-TURNED = ("frame 4016 6016 points 3 primary 1 mode 3 origin 2\n"
-          "1 2009 3008 164 164 0\n27 1708 4203 164 164 0\n38 2311 1812 164 164 0")
+LISTED = "frame 6016 4016 points 2 primary 1 mode 3 origin 2\n1 3008 2007 164 164 0\n27 4203 2308 164 164 0"
+TURNED = "frame 4016 6016 points 2 primary 1 mode 3 origin 2\n1 2009 3008 164 164 0\n27 1708 4203 164 164 0"
 
 
 # The whole case's points as they are loaded.
@@ -272,6 +271,7 @@ def pairs():
     load, _, cut, listing = reference.WHOLE_CASE.splitlines()
     yield from ((load, "ok"), (b"03FD", "no 14"), (cut, "no 10"), (listing, WHOLE_LISTED))
     yield from orientations.pairs()
+    yield from boxes.pairs()
     yield from first_load()
     # Feeds alone, and a last line without one.
     for _ in range(5):

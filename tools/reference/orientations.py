@@ -87,14 +87,16 @@ def shown(placed):
 
 
 def each():
-    """Each photograph in each orientation, listed and fitted, with a back in between."""
+    """Each photograph in each orientation, listed and fitted, with a back in between: 3 by 2 is its shape, near enough, up to 4."""
     for given in PHOTOGRAPHS:
         placed = stored.answer(given)
         yield load_line(given), "ok"
         for number in EIGHT:
             yield script.orient(number), "ok"
             yield script.LIST, shown(oriented(placed, number))
-            yield script.fit(300, 200), None
+            box = (300, 200) if number <= 4 else (200, 300)
+            yield script.fit(*box), None
+            yield script.fit(*box[::-1]), "no 19"
             yield script.BACK, "ok"
         yield script.LIST, shown(placed)
 

@@ -242,6 +242,17 @@ def scale_point(point, old, new):
     return point._replace(x=x, y=y, width=width, height=height)
 
 
+def shape_difference(frame, box):
+    """'|frame width × box height − frame height × box width|'."""
+    return abs(frame[0] * box[1] - frame[1] * box[0])
+
+
+def same_shape(frame, box):
+    """'A box is now accepted only if' that difference 'is at most the longest of
+    the four sides'."""
+    return shape_difference(frame, box) <= max(*frame, *box)
+
+
 # -------------------------------------------------------- recorded position
 
 
@@ -519,6 +530,8 @@ class Book:
         if width == 0 or height == 0:
             return no(12)
         frame = self.frame()
+        if not same_shape(frame, (width, height)):
+            return no(19)
         scaled = [(i, scale_point(point, frame, (width, height))) for i, point in self.listed()]
         return self._write(buffer, (width, height), scaled)
 
@@ -769,6 +782,59 @@ def kept_checks():
     ]
 
 
+def shape_checks():
+    """Boxes judged by their shape, as (what it is, got, wanted)."""
+    most = MAX_U32
+
+    def judged(frame, *boxes):
+        """The answers of `same_shape`, then those with the sides of frame and box exchanged."""
+        return [same_shape(frame[::way], box[::way]) for way in (1, -1) for box in boxes]
+
+    def fitted(book, *boxes, places=6):
+        """What fits answer if they refuse and keep the buffer; else what is in it."""
+        answers = []
+        for box in boxes:
+            buffer = [9] * places
+            answer = book.fit(*box, buffer)
+            answers.append(answer if refused(answer) and buffer == [9] * places else buffer)
+        return answers
+
+    def book_of(*calls):
+        """Point 1, at (3008, 2007) in 6016 by 4016, and these calls."""
+        book = Book()
+        for name, *arguments in [("load", named_block(1), None, None, MODEL), *calls]:
+            getattr(book, name)(*arguments)
+        return book
+
+    whole, on_its_side = book_of(), book_of(TURN_CALL)
+    cut, square = book_of(("cut", 2900, 1900, 400, 300)), book_of(("cut", 2900, 1900, 400, 400), TURN_CALL)
+    return [
+        # For a frame of 7 by 5 it is 7 * height - 5 * width; the longest side is the frame's 7, then that of the box.
+        ("one below: 6, -6; -11, 12", judged((7, 5), (3, 3), (4, 2), (12, 7), (13, 11)), [True] * 8),
+        ("the longest side: 7, -7; -14, 14", judged((7, 5), (7, 6), (7, 4), (14, 8), (14, 12)), [True] * 8),
+        ("one above: 8, -8; -10, 9, 16", judged((7, 5), (4, 4), (3, 1), (9, 5), (8, 7), (15, 13)), [False] * 10),
+        ("multiples of the frame", judged((7, 5), (7, 5), (14, 10), (7 * 613566756, 5 * 613566756)), [True] * 6),
+        ("the largest sides, one below, at and above",
+         judged((most, most - 1), (most - 1, most - 1), (most, most), (1, 2)), [True, True, False] * 2),
+        ("a difference of 2 to the 32nd", judged((65536, 65536), (65536, 131072)), [False] * 2),
+        ("a box that is off by a little", fitted(whole, (300, 200)), [[1, 150, 100, 8, 8, 0]]),  # 1600 <= 6016
+        # 6016 * 252 - 4016 * 376 = 6016; with 250, -6016.
+        ("a box that is off by the most", fitted(whole, (376, 252), (376, 250)),
+         [[1, 188, 126, 10, 10, 0], [1, 188, 125, 10, 10, 0]]),
+        ("boxes of another shape", fitted(whole, (376, 253), (376, 249), (1200, 800), (4016, 6016)), [no(19)] * 4),
+        ("the load's frame on its side", fitted(on_its_side, (6016, 4016), (300, 200)), [no(19)] * 2),
+        ("the present one", fitted(on_its_side, (4016, 6016), (200, 300)),
+         [[1, 2009, 3008, 164, 164, 0], [1, 100, 150, 8, 8, 0]]),
+        ("the frame of a cut", fitted(cut, (6016, 4016), (300, 200), (40, 30)), [no(19), no(19), [1, 11, 11, 16, 16, 0]]),
+        ("a square on its side", fitted(square, (400, 400), (40, 41), (40, 42)),
+         [[1, 293, 108, 164, 164, 0], [1, 29, 11, 16, 17, 0], no(19)]),
+        ("12 before 19 and 13", fitted(whole, (0, 4016), (6016, 0), (0, 0), places=0), [no(12)] * 3),
+        ("19 before 13", fitted(whole, (6016, 6016), (376, 253), places=5), [no(19)] * 2),
+        ("13 after it", fitted(whole, (6016, 4016), (376, 252), places=5), [no(13)] * 2),
+        ("7 before them", fitted(Book(), (0, 0), (1, 9), (300, 200), places=0), [no(7)] * 3),
+    ]
+
+
 def self_test():
     dx = (2, 6016, 4016, 3936, 2624, 1040, 696)
 
@@ -856,7 +922,7 @@ def self_test():
         ("cut past the frame", book.cut(1, 0, 6016, 1), no(9)),
         ("cut that drops the primary", book.cut(0, 0, 100, 100), no(10)),
         ("fit to a zero side", book.fit(0, 5, []), no(12)),
-    ] + name_checks() + kept_checks()
+    ] + name_checks() + kept_checks() + shape_checks()
     failed = [(name, got, wanted) for name, got, wanted in checks if got != wanted]
     for name, got, wanted in failed:
         print("%s: got %r, wanted %r" % (name, got, wanted))

@@ -1,7 +1,8 @@
 """What is stored: the loads of the program placing_test, as material for other
-calls, with cuts and orientations by chance; and files that are written or
+calls, with cuts, orientations and boxes by chance; and files that are written or
 compared."""
 
+import math
 import os
 import struct
 import sys
@@ -11,7 +12,9 @@ import reference
 ROOT = os.path.join(os.path.dirname(os.path.abspath(__file__)), "..", "..")
 CRATES = os.path.join(ROOT, "crates")
 RECORD = 512
-HUGE = [0, 1, 4294967295]
+MAX_U32 = reference.MAX_U32
+HUGE = [0, 1, MAX_U32]
+SIDES = [1, 2, 3, 37, 100, 400, 424, 640, 1000, 4016, 6016, 65535, 65536, MAX_U32 - 1, MAX_U32]
 
 
 def records(data):
@@ -56,6 +59,59 @@ def a_cut(chance, book):
 def an_orientation(chance):
     """Mostly one of the eight numbers."""
     return chance.randrange(1, 9) if chance.random() < 0.9 else chance.choice([0, 9, 255, chance.randrange(9, 256)])
+
+
+def a_box(chance, book):
+    """A box for fitting: of the present frame's shape or nearly, where that just ends, or of another."""
+    any_box = [chance.choice(SIDES + [chance.randrange(1, 9000)]) for _ in range(2)]
+    if book.held is None:
+        return chance.choice([any_box, [0, 0]])
+    frame, held = book.frame(), book.held.frame
+    longest = max(frame)
+    way = chance.choices(["zero", "times", "scaled", "edge", "exchanged", "any"], [8, 18, 30, 26, 8, 10])[0]
+    if way == "zero":
+        return chance.choice([[0, 0], [0, frame[1]], [frame[0], 0], [0, any_box[1]], [any_box[0], 0]])
+    if way == "edge":
+        return box_at_the_edge(chance, frame)
+    if way == "exchanged":
+        return chance.choice([frame[::-1], held, held[::-1]])
+    if way == "any":
+        return any_box
+    if way == "times":
+        most = MAX_U32 // longest
+        times = min(most, chance.choice([1, 1, 2, 3, 10, most, chance.randrange(1, most + 1)]))
+        box = [side * times for side in frame]
+    else:
+        small = chance.randrange(3, 40)
+        to = chance.choice([1, 2, small, small, chance.choice(SIDES), chance.randrange(1, longest + 1)])
+        box = [max(1, reference.scale(side, longest, to)) for side in frame]
+    if chance.random() < 0.5:
+        box[chance.randrange(2)] += chance.choice([-1, 1])
+    return [min(side, MAX_U32) for side in box]
+
+
+def box_at_the_edge(chance, frame):
+    """A box whose shape differs from the frame's by the longest side, or by the next less or more that there is; the frame if
+    none is found."""
+    long, short = max(frame), min(frame)
+    for _ in range(9):
+        # For the box's sides x and y, |long * y - short * x| is to be the longest side: long * y = factor * x + rest.
+        sign, off = chance.choice([-1, 1]), chance.choice([-1, 0, 1])
+        if chance.random() < 0.5:  # that is the frame's
+            factor, rest, low, high = short, sign * long, 1, long
+        else:  # that is x
+            factor, rest, low, high = short + sign, 0, long, MAX_U32
+        shared = math.gcd(factor, long)
+        rest += sign * off * shared
+        step = long // shared
+        one = -rest // shared * pow(factor // shared, -1, step)
+        every = range(low + (one - low) % step, high + 1, step)
+        if every:
+            x = chance.choice([every[0], chance.choice(every)])
+            y = (factor * x + rest) // long
+            if 0 < y <= MAX_U32:
+                return (x, y) if frame[0] == long else (y, x)
+    return frame
 
 
 def read(path):

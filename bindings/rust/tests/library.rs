@@ -240,6 +240,35 @@ fn load_line(block: &[u8]) -> String {
     call_line(&load)
 }
 
+/// The line that fits to a box.
+fn fit_line(width: u32, height: u32) -> String {
+    call_line(&[&[7][..], &width.to_be_bytes(), &height.to_be_bytes()].concat())
+}
+
+#[test]
+fn a_box_has_the_shape_of_the_frame() {
+    // In 6016 by 4016, and in 4016 by 6016, a box may be off by 6016: 6016 * 252 - 4016 * 376.
+    let calls = [
+        (fit_line(376, 253), "no 7"),
+        (load_line(&whole_case()), "ok"),
+        (
+            fit_line(376, 252),
+            "frame 376 252 points 2 primary 0 mode 1 origin 2\n1 188 126 10 10 0\n16 218 126 10 10 0",
+        ),
+        (fit_line(376, 253), "no 19"),
+        (fit_line(0, 253), "no 12"),
+        (call_line(&[9, 6]), "ok"),
+        (fit_line(376, 252), "no 19"),
+        (
+            fit_line(252, 376),
+            "frame 252 376 points 2 primary 0 mode 1 origin 2\n1 126 188 10 10 0\n16 126 218 10 10 0",
+        ),
+    ];
+    let (lines, answers): (Vec<String>, Vec<&str>) = calls.into_iter().unzip();
+    let printed = String::from_utf8(script(lines.join("\n").as_bytes())).unwrap();
+    assert_eq!(printed, answers.join("\n") + "\n");
+}
+
 #[test]
 fn orientations_are_numbered_1_to_8() {
     let orient = |number: u8| call_line(&[9, number]);
@@ -257,12 +286,10 @@ fn orientations_are_numbered_1_to_8() {
 
 #[test]
 fn the_longest_answers_have_room() {
-    // A load of all 39 points; then they are listed as they are, and fitted to the largest box, where numbers have up to ten digits.
-    let mut fit = vec![7];
-    fit.extend([0xFF; 8]);
+    // A load of all 39 points; then they are listed as they are, and fitted to the widest box, where numbers have up to ten digits.
     let mut lines = vec![load_line(&all_points())];
     for _ in 0..40 {
-        lines.extend([call_line(&[6]), call_line(&fit)]);
+        lines.extend([call_line(&[6]), fit_line(4294967295, 2867119125)]);
     }
     // Without the last line feed, so that there is one line more than feeds.
     let given = lines.join("\n").into_bytes();
@@ -277,7 +304,7 @@ fn the_longest_answers_have_room() {
     for pair in rows.chunks(2 * 40) {
         let (list, fitted) = pair.split_at(40);
         assert_eq!(list.join("\n"), listed);
-        assert_eq!(fitted[0], "frame 4294967295 4294967295 points 39 primary 0 mode 1 origin 2");
+        assert_eq!(fitted[0], "frame 4294967295 2867119125 points 39 primary 0 mode 1 origin 2");
     }
     // More than the wrapper's first buffer: its last one has exactly this room.
     assert!(len > 64 * 1024 && script_room(&given) < 4 * 64 * 1024);
