@@ -8,6 +8,7 @@ pub mod Shown
 pub mod Fitted
 pub mod Refusals
 pub mod Laws
+pub mod Boxes
 pub mod Orientations
 pub mod CheckpointPlaces
 pub mod WorkspaceAgrees

@@ -1,7 +1,8 @@
 -- Laws of lists of calls and of the journal, which show that the claim is no empty promise: orientations come to one, edits undo one
--- another as they do on a picture in the hand, every edit of a row moves what is listed before it, and 64 edits can stand.
--- proofs/Orientations.antt (orientation calls) and Laws.antt (the others) prove them.
-use Prim.Native.Nat.{ℕ, _+_, _≤_, _<_}
+-- another as they do on a picture in the hand, every edit of a row moves what is listed before it, 64 edits can stand, and a box that is
+-- the present frame, once or some times, is accepted. proofs/Orientations.antt (orientation calls), Boxes.antt and Laws.antt (the others)
+-- prove them.
+use Prim.Native.Nat.{ℕ, _+_, _*_, _≤_, _<_}
 use mathlib.Core.List.{List, [], _∷_, _++_, map}
 use mathlib.Core.Option.{none, some}
 use mathlib.Core.Path.{_≡_}
@@ -9,11 +10,12 @@ use lib.ListN.{length, replicate}
 use Rattle.reading.specs.declared.geometry.Size.{Size}
 use Rattle.placing.specs.declared.focus.FocusPoint.{FocusPoint}
 use Rattle.placing.specs.Load.{Focus}
+use Rattle.shape.specs.ShapeLaws.{times, timesPoint}
 use Rattle.sheet.specs.declared.orientation.Orientation.{Orientation}
 use Rattle.sheet.specs.declared.orientation.Orientation.the-variants.{Normal}
 use Rattle.sheet.specs.Orientation.{orientationNumber}
 use Rattle.sheet.specs.OrientationLaws.{productOf}
-use Rattle.journal.specs.Journal.{Change, cut, orient, holds, movedBy, carried, ifListed, presentFrame, listing, no, ok}
+use Rattle.journal.specs.Journal.{Change, cut, orient, holds, movedBy, carried, ifListed, presentFrame, listing, no, ok, written}
 use Rattle.journal.specs.Calls.{Call, change, back, list, fit}
 use Rattle.journal.specs.Claim.{after, answer}
 
@@ -92,3 +94,19 @@ abbrev pub StaysUnlisted : Type 0
 StaysUnlisted =
     (f : Size) (p : FocusPoint) (standing more : List Change) → carried f (some p) standing ≡ none
     → carried f (some p) (standing ++ more) ≡ none
+
+-- 02's test of shapes is no trap: a box that is the present frame a whole number of times, no side over 4,294,967,295, is accepted. In it
+-- each listed point is where list has it, so many times: nothing is rounded, trimmed or dropped
+abbrev pub FitsTimes : Type 0
+FitsTimes =
+    (calls : List Call) (f : Focus) (standing : List Change) → after calls ≡ holds f standing
+    → (k : ℕ) → 0 < k → k * presentFrame f standing .width ≤ 4294967295 → k * presentFrame f standing .height ≤ 4294967295
+    → (buffer : List ℕ) → answer calls (fit (times k (presentFrame f standing)) buffer)
+    ≡ written f standing (times k (presentFrame f standing)) (map (timesPoint k) (listing f standing)) buffer
+
+-- and a fit in the present frame itself answers and writes as list does
+abbrev pub FitsTheFrame : Type 0
+FitsTheFrame =
+    (calls : List Call) (f : Focus) (standing : List Change) → after calls ≡ holds f standing
+    → presentFrame f standing .width ≤ 4294967295 → presentFrame f standing .height ≤ 4294967295
+    → (buffer : List ℕ) → answer calls (fit (presentFrame f standing) buffer) ≡ answer calls (list buffer)

@@ -1,11 +1,13 @@
 -- What follows from the test of shapes, and examples of it. proofs/Shapes.antt has the proofs.
-use Prim.Native.Nat.{ℕ, _+_, _*_, _≤_}
+use Prim.Native.Nat.{ℕ, _+_, _*_, _≤_, _<_}
 use mathlib.Core.Bool.{Bool, true, false, _&&_, Bool·beq}
 use mathlib.Core.List.{List, [], _∷_}
 use mathlib.Core.Logic.{_↔_}
 use mathlib.Core.Path.{_≡_}
 use Rattle.reading.specs.declared.geometry.Size.{Size}
-use Rattle.placing.specs.Fit.{by, swapped}
+use Rattle.placing.specs.declared.focus.FocusPoint.{FocusPoint}
+use Rattle.placing.specs.Fit.{by, swapped, pointFits}
+use Rattle.placing.specs.Scale.{scaledPoint}
 use Rattle.shape.specs.Shape.{longestSide, sameShape}
 
 -- the same without a subtraction: neither product is over the other by more than the longest side
@@ -16,7 +18,7 @@ pub record NearInShape (frame box : Size) : Type 0 where
 abbrev pub ToldByProducts : Type 0
 ToldByProducts = (frame box : Size) → (sameShape frame box ≡ true) ↔ NearInShape frame box
 
--- a size, each side a whole number of times
+-- a size, each side so many times
 abbrev pub times : ℕ → Size → Size
 times k s = by (k * s .width) (k * s .height)
 
@@ -35,6 +37,23 @@ EitherWay = (a b : Size) → sameShape a b ≡ sameShape b a
 -- nor whether both are seen with their sides exchanged
 abbrev pub BothSwapped : Type 0
 BothSwapped = (a b : Size) → sameShape (swapped a) (swapped b) ≡ sameShape a b
+
+-- ---- scaling to a whole number of times the frame
+-- a point, its center and area so many times
+abbrev pub timesPoint : ℕ → FocusPoint → FocusPoint
+timesPoint k p =
+    record {
+      number = p .number;
+      center = record { x = k * p .center .x; y = k * p .center .y };
+      size = times k (p .size);
+      «in_focus» = p .«in_focus»;
+    }
+
+-- is exact: nothing is rounded, trimmed or dropped of a point that fits the frame. proofs/Times.antt has the proof
+abbrev pub ScaledTimes : Type 0
+ScaledTimes =
+    (k : ℕ) (frame : Size) (p : FocusPoint) → 0 < k → k * frame .width ≤ 4294967295 → k * frame .height ≤ 4294967295
+    → pointFits frame p ≡ true → scaledPoint p frame (times k frame) ≡ timesPoint k p
 
 -- ---- examples
 pub record Example : Type 0 where
