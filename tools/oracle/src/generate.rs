@@ -5,6 +5,7 @@
 mod block;
 mod edges;
 mod random;
+pub mod shapes;
 
 pub use edges::edges;
 pub use random::Random;

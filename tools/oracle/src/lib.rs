@@ -1,13 +1,15 @@
-//! What the Rust library answers for one load.
+//! What the Rust library answers for one load, and of the shapes of two sizes.
 
 include!(concat!(env!("OUT_DIR"), "/tree.rs"));
 
 pub mod generate;
 mod line;
+mod pair;
 
 pub use crate::focus::{FocusAreaMode, FocusOrigin, FocusPoint, FocusPoints};
 pub use crate::geometry::{Point, Size};
 pub use crate::line::Load;
+pub use crate::pair::Pair;
 
 use crate::formats::makernote::nikon::inside_nikon::focus_points;
 
