@@ -16,7 +16,7 @@ use Rattle.placing.specs.Fit.{hasZeroSide, pointFits}
 use Rattle.placing.specs.FittingLaws.{CenterNear, OnFrame}
 use Rattle.placing.specs.Focus.{focusOf}
 use Rattle.placing.specs.Load.{Focus, noPoint}
-use Rattle.shape.specs.Shape.{difference, longestSide}
+use Rattle.shape.specs.Shape.{shapeDifference, longestSide}
 use Rattle.sheet.specs.declared.Sheet.{Sheet}
 use Rattle.sheet.specs.Sheet.{freshSheet}
 use Rattle.journal.specs.Journal.{Change, cut, orient, Journal, empty, holds, frameBy, pointBy, staysListed, presentFrame, listing, primaryIndex, primaryOf, primaryAfter, fitted, Answer, no, ok, numbers, head}
@@ -135,17 +135,17 @@ pub record GoodCut (left top width height : ℕ) (f : Size) : Type 0 where
   pub across : left + width ≤ f .width
   pub down : top + height ≤ f .height
 
--- 19: the two products of the frame's and the box's sides differ by more than the longest of the four
+-- 19: "shapes differ"
 abbrev pub OtherShape : Size → Size → Type 0
-OtherShape f box = longestSide f box < difference (f .width * box .height) (f .height * box .width)
+OtherShape f box = longestSide f box < shapeDifference f box
 
 -- a box that is neither 12 nor 19: 02's accepted box
 pub record GoodBox (f box : Size) : Type 0 where
   pub no-zero-side : hasZeroSide box ≡ false
-  pub same-shape : difference (f .width * box .height) (f .height * box .width) ≤ longestSide f box
+  pub same-shape : shapeDifference f box ≤ longestSide f box
 
--- when a number is the lowest that applies to a call, from what the journal holds: "Load can give 1 to 6; cut 7 to 10; .. back 7, 11;
--- list 7, 13; fit 7, 12, 13"; 02: an orientation is "judged by 7, 8 and 15", and 19 is "between 12 and 13"
+-- when a call is refused by a number, from what the journal holds: the lowest that applies, but that 19 is "between 12 and 13". "Load can
+-- give 1 to 6; cut 7 to 10; .. back 7, 11; list 7, 13; fit 7, 12, 13", and now 19; an orientation is "judged by 7, 8 and 15"
 pub data Refuses : Journal → Call → ℕ → Type 0 where
   -- 1 to 6, as demand 2 says
   notLoaded : {j : Journal} {block : List ℕ} {raw picture : OptionalSize} {model : List ℕ} {n : ℕ}

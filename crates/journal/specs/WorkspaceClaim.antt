@@ -169,7 +169,7 @@ pub record GoodName (name : List ℕ) : Type 0 where
   pub some-bytes : 1 ≤ length name
   pub not-long : length name ≤ 16
 
--- when a number is the lowest that applies to a call, from what the journal holds: to a call of the sheet as to the sheet alone; "16,
+-- when a call is refused by a number, from what the journal holds: a call of the sheet as on the sheet alone; else by the lowest: "16,
 -- name empty or too long; 17, a ninth name; 18, no such name; all after 7, in that order"
 pub data RefusesIn : WorkspaceJournal → WorkspaceCall → ℕ → Type 0 where
   ofSheet : {j : Journal} {ks : List NamedEdits} {c : Call} {n : ℕ} → Refuses j c n → RefusesIn (with j ks) (onSheet c) n

@@ -9,29 +9,26 @@ use native.Mathlib.Omega.{arith}
 use borrow.Author.Tests.{le-leb, lt-leb, leb-true, leb-false}
 use Rattle.reading.specs.declared.geometry.Size.{Size}
 use Rattle.placing.specs.Fit.{swapped}
-use Rattle.shape.specs.Shape.{difference, longestSide, sameShape}
+use Rattle.shape.specs.Shape.{shapeDifference, longestSide, sameShape}
 use Rattle.shape.specs.ShapeLaws.{NearInShape, ToldByProducts, times, OwnShape, TimesShape, EitherWay, BothSwapped, rowsAgree, ShapeExamples}
 
 -- the test, in numbers
 module _ (f b : Size) where
-  abbrev apart : ℕ
-  apart = difference (f .width * b .height) (f .height * b .width)
-
-  pub same-told : sameShape f b ≡ true → apart ≤ longestSide f b
+  pub same-told : sameShape f b ≡ true → shapeDifference f b ≤ longestSide f b
   unfolding sameShape
-  same-told e = leb-true apart (longestSide f b) e
+  same-told e = leb-true (shapeDifference f b) (longestSide f b) e
 
-  pub same-of : apart ≤ longestSide f b → sameShape f b ≡ true
+  pub same-of : shapeDifference f b ≤ longestSide f b → sameShape f b ≡ true
   unfolding sameShape
-  same-of l = le-leb apart (longestSide f b) l
+  same-of l = le-leb (shapeDifference f b) (longestSide f b) l
 
-  pub other-told : sameShape f b ≡ false → longestSide f b < apart
+  pub other-told : sameShape f b ≡ false → longestSide f b < shapeDifference f b
   unfolding sameShape
-  other-told e = leb-false apart (longestSide f b) e
+  other-told e = leb-false (shapeDifference f b) (longestSide f b) e
 
-  pub other-of : longestSide f b < apart → sameShape f b ≡ false
+  pub other-of : longestSide f b < shapeDifference f b → sameShape f b ≡ false
   unfolding sameShape
-  other-of l = lt-leb apart (longestSide f b) l
+  other-of l = lt-leb (shapeDifference f b) (longestSide f b) l
 
 near : (f b : Size) → sameShape f b ≡ true → NearInShape f b
 near f b e = let l = same-told f b e in record { above = omega arith; below = omega arith }
@@ -60,14 +57,14 @@ unfolding sameShape
 either-way a b =
     let p = mul-comm (a .width) (b .height) in
     let q = mul-comm (a .height) (b .width) in
-    let d : difference (a .width * b .height) (a .height * b .width) ≡ difference (b .width * a .height) (b .height * a .width) = omega arith in
+    let d : shapeDifference a b ≡ shapeDifference b a = omega arith in
     let l : longestSide a b ≡ longestSide b a = omega arith in
     ap₂ leb d l
 
 pub both-swapped : BothSwapped
 unfolding sameShape
 both-swapped a b =
-    let d : difference (a .height * b .width) (a .width * b .height) ≡ difference (a .width * b .height) (a .height * b .width) = omega arith in
+    let d : shapeDifference (swapped a) (swapped b) ≡ shapeDifference a b = omega arith in
     let l : longestSide (swapped a) (swapped b) ≡ longestSide a b = omega arith in
     ap₂ leb d l
 

@@ -8,11 +8,14 @@ use Rattle.reading.specs.declared.geometry.Size.{Size}
 abbrev pub difference : ℕ → ℕ → ℕ
 difference a b = (a - b) + (b - a)
 
+-- "|frame width × box height − frame height × box width|": the products are exact
+abbrev pub shapeDifference : Size → Size → ℕ
+shapeDifference frame box = difference (frame .width * box .height) (frame .height * box .width)
+
 -- "the longest of the four sides"
 abbrev pub longestSide : Size → Size → ℕ
 longestSide frame box = max (max (frame .width) (frame .height)) (max (box .width) (box .height))
 
--- "|frame width × box height − frame height × box width| is at most the longest of the four sides": the products are exact
+-- the one "is at most" the other
 unfoldable pub sameShape : Size → Size → Bool
-sameShape frame box =
-    leb (difference (frame .width * box .height) (frame .height * box .width)) (longestSide frame box)
+sameShape frame box = leb (shapeDifference frame box) (longestSide frame box)
