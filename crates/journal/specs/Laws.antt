@@ -95,8 +95,8 @@ StaysUnlisted =
     (f : Size) (p : FocusPoint) (standing more : List Change) → carried f (some p) standing ≡ none
     → carried f (some p) (standing ++ more) ≡ none
 
--- 02's test of shapes is no trap: a box that is the present frame a whole number of times, no side over 4,294,967,295, is accepted. In it
--- each listed point is where list has it, so many times: nothing is rounded, trimmed or dropped
+-- 02's test of shapes is no trap: a box that is the present frame a whole number of times, no side over 4,294,967,295, is neither 12 nor
+-- 19. In it each listed point is where list has it, so many times: nothing is rounded, trimmed or dropped
 abbrev pub FitsTimes : Type 0
 FitsTimes =
     (calls : List Call) (f : Focus) (standing : List Change) → after calls ≡ holds f standing
@@ -104,7 +104,7 @@ FitsTimes =
     → (buffer : List ℕ) → answer calls (fit (times k (presentFrame f standing)) buffer)
     ≡ written f standing (times k (presentFrame f standing)) (map (timesPoint k) (listing f standing)) buffer
 
--- and a fit in the present frame itself answers and writes as list does
+-- and in the present frame itself, no side over 4,294,967,295, fit answers and writes as list does, 13 too
 abbrev pub FitsTheFrame : Type 0
 FitsTheFrame =
     (calls : List Call) (f : Focus) (standing : List Change) → after calls ≡ holds f standing

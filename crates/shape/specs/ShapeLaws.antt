@@ -1,5 +1,6 @@
--- What follows from the test of shapes, and examples of it. proofs/Shapes.antt has the proofs.
-use Prim.Native.Nat.{ℕ, _+_, _*_, _≤_, _<_}
+-- What follows from the test of shapes, and examples of it. proofs/Shapes.antt has the proofs, Times.antt that of scaling to a whole
+-- number of times the frame.
+use Prim.Native.Nat.{ℕ, _+_, _*_, _/_, _≤_, _<_, max}
 use mathlib.Core.Bool.{Bool, true, false, _&&_, Bool·beq}
 use mathlib.Core.List.{List, [], _∷_}
 use mathlib.Core.Logic.{_↔_}
@@ -7,7 +8,7 @@ use mathlib.Core.Path.{_≡_}
 use Rattle.reading.specs.declared.geometry.Size.{Size}
 use Rattle.placing.specs.declared.focus.FocusPoint.{FocusPoint}
 use Rattle.placing.specs.Fit.{by, swapped, pointFits}
-use Rattle.placing.specs.Scale.{scaledPoint}
+use Rattle.placing.specs.Scale.{scaleOf, scaledPoint}
 use Rattle.shape.specs.Shape.{longestSide, sameShape}
 
 -- the same without a subtraction: neither product is over the other by more than the longest side
@@ -38,6 +39,20 @@ EitherWay = (a b : Size) → sameShape a b ≡ sameShape b a
 abbrev pub BothSwapped : Type 0
 BothSwapped = (a b : Size) → sameShape (swapped a) (swapped b) ≡ sameShape a b
 
+-- a box with one side of choice, the other as the frame's shape has it, rounded to the nearest pixel and at least 1, has the frame's
+-- shape, unless that side would be over 4,294,967,295. First the width of choice, then the height
+abbrev pub RoundedHeight : Type 0
+RoundedHeight =
+    (frame : Size) (width : ℕ) → 0 < frame .width
+    → (frame .height * width + frame .width / 2) / frame .width ≤ 4294967295
+    → sameShape frame (by width (max (scaleOf (frame .height) (frame .width) width) 1)) ≡ true
+
+abbrev pub RoundedWidth : Type 0
+RoundedWidth =
+    (frame : Size) (height : ℕ) → 0 < frame .height
+    → (frame .width * height + frame .height / 2) / frame .height ≤ 4294967295
+    → sameShape frame (by (max (scaleOf (frame .width) (frame .height) height) 1) height) ≡ true
+
 -- ---- scaling to a whole number of times the frame
 -- a point, its center and area so many times
 abbrev pub timesPoint : ℕ → FocusPoint → FocusPoint
@@ -49,7 +64,7 @@ timesPoint k p =
       «in_focus» = p .«in_focus»;
     }
 
--- is exact: nothing is rounded, trimmed or dropped of a point that fits the frame. proofs/Times.antt has the proof
+-- is exact: nothing is rounded, trimmed or dropped of a point that fits the frame
 abbrev pub ScaledTimes : Type 0
 ScaledTimes =
     (k : ℕ) (frame : Size) (p : FocusPoint) → 0 < k → k * frame .width ≤ 4294967295 → k * frame .height ≤ 4294967295

@@ -1,6 +1,6 @@
 //! Pairs of sizes, records of 16 bytes, and whether the two have one shape.
 //!
-//! `shapes SEED COUNT` writes the pairs at the edges of the rule and COUNT by
+//! `shapes SEED COUNT` writes pairs around the edges of the rule and COUNT by
 //! chance, `shapes --stored SEED` those that are stored. `shapes` reads pairs
 //! and prints what the library's `same_shape` answers, a line each.
 //! `shapes --tally` reads pairs and counts those at the edges: where the

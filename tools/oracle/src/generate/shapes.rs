@@ -1,4 +1,4 @@
-//! Pairs of sizes for `same_shape`: those at the edges of the rule, and others
+//! Pairs of sizes for `same_shape`: around the edges of the rule, and others
 //! by chance.
 
 use super::Random;
