@@ -11,10 +11,11 @@ needs() {
   done
 }
 
-# Builds the library and the bench program for release.
+# Builds the library and the bench program for release. Its functions start at multiples of 64 bytes: the same plain list, 32 bytes off
+# by chance, took up to a quarter longer behind turns.
 build() {
   rt staticlib focuspoints >/dev/null
-  cargo build --release --offline -q --manifest-path tools/bench/Cargo.toml
+  RUSTFLAGS="-C llvm-args=-align-all-functions=6" cargo build --release --offline -q --manifest-path tools/bench/Cargo.toml
 }
 
 machine() {

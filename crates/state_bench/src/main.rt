@@ -1,17 +1,19 @@
 // Makes one call, or a pair of calls, many times over on one state, to be timed: every state is handed on by value. The first 512
 // bytes of standard input are a load as workspace_test reads it (its sizes are not looked at), every 512 after them a job: its kind
 // in a byte, how many times in 32 bits, how many edits in a byte, an edit as workspace_test reads it (9 and the orientation's number
-// in a byte, or 2 and the cut's four 32-bit numbers), and zeros; numbers are big-endian. Each job starts from the load, with so many
-// of that edit standing, and on a workspace with eight names kept, of 16 bytes each, that differ in the last. Kinds: 1 that edit once
-// more and a back, on a sheet; 2 a turn (orientation 6) and a back, on a workspace. 3 a keep and a return on a workspace, under the
-// name at the last of the eight places; 4 the keep alone. 5 a list on a sheet, 6 on a workspace, into 240 places. 7 an orientation of
-// number 0, which is refused and changes nothing, on a sheet, 8 on a workspace: what is left is handing the state on. Prints for each
-// job the kind, how many times, the last answer (`ok`, `no N`, or `none` without a call), and how many edits stand at the end. No
-// contract can say what is printed: that is held to `stdout`.
+// in a byte, or 2 and the cut's four 32-bit numbers) with zeros up to 17 bytes, a box's two 32-bit sides, and zeros; numbers are
+// big-endian. Each job starts from the load, with so many of that edit standing, and on a workspace with eight names kept, of 16 bytes
+// each, that differ in the last. Kinds: 1 that edit once more and a back, on a sheet; 2 a turn (orientation 6) and a back, on a
+// workspace. 3 a keep and a return on a workspace, under the name at the last of the eight places; 4 the keep alone. 5 a list on a
+// sheet, 6 on a workspace, into 240 places. 7 an orientation of number 0, which is refused and changes nothing, on a sheet, 8 on a
+// workspace: what is left is handing the state on. 9 a fit to the box on a sheet, into 240 places. Prints for each job the kind, how
+// many times, the last answer (`ok`, `no N`, or `none` without a call), how many edits stand at the end, and the sum of the 240 places,
+// modulo 2 to the 32nd, where there are some. No contract can say what is printed: that is held to `stdout`.
 use libc::STDIN_FILENO;
 use libc::STDOUT_FILENO;
 use numbers::io::ByteOrder;
 use reading::geometry::OptionalSize;
+use reading::geometry::Size;
 use sheet::Sheet;
 use workspace::Workspace;
 ghost use mathlib.Core.Path.{_≡_};
@@ -42,7 +44,17 @@ fn print_end(answer: u32, standing: usize) {
         number(b": no ", answer as u64);
     }
     number(b", standing ", standing as u64);
-    text(b"\n");
+}
+
+// The sum of a buffer's places, carries dropped.
+fn sum(places: &[u32; 240]) -> u32 {
+    let mut total: u32 = 0;
+    let mut i: usize = 0;
+    while i < 240 {
+        total = std::num::wrapping_add_u32(total, places[i]);
+        i += 1;
+    }
+    total
 }
 
 // The load's model and block.
@@ -63,6 +75,14 @@ fn block_in<'a>(call: &'a [u8]) -> &'a [u8] {
 // The 32-bit number at a place.
 fn number_at(s: &[u8], at: usize) -> u32 {
     numbers::io::u32_of(numbers::io::tail(s, at), ByteOrder::Big)
+}
+
+// The job's box.
+fn box_in(job: &[u8]) -> Size {
+    Size {
+        width: number_at(job, 23),
+        height: number_at(job, 27),
+    }
 }
 
 // The sheet with the job's edit once more.
@@ -200,6 +220,16 @@ fn lists_on_workspace(workspace: Workspace, out: &mut [u32], count: u32) {
     print_end(last, s.standing);
 }
 
+fn fits_on_sheet(sheet: Sheet, size: Size, out: &mut [u32], count: u32) {
+    let mut last = NO_CALL;
+    let mut left = count;
+    while left > 0 {
+        last = sheet::listing::list_number(sheet.fit(size, out));
+        left -= 1;
+    }
+    print_end(last, sheet.standing);
+}
+
 fn refusals_on_sheet(sheet: Sheet, count: u32) {
     let mut s = sheet;
     let mut last = NO_CALL;
@@ -229,14 +259,18 @@ fn refusals_on_workspace(workspace: Workspace, count: u32) {
     print_end(last, s.standing);
 }
 
-// The lists of kinds 5 and 6, in a buffer of their own.
+// The lists of kinds 5 and 6 and the fits of kind 9, in a buffer of their own, which is read at the end: the compiler leaves out what is
+// written into one that nobody reads.
 fn lists(load: &[u8], job: &[u8], kind: u8, count: u32) {
     let mut out = [0u32; 240];
     if kind == 5 {
         lists_on_sheet(sheet_of(load, job), &mut out, count);
-    } else {
+    } else if kind == 6 {
         lists_on_workspace(workspace_of(load, job), &mut out, count);
+    } else {
+        fits_on_sheet(sheet_of(load, job), box_in(job), &mut out, count);
     }
+    number(b", sum ", sum(&out) as u64);
 }
 
 // Does one job.
@@ -255,8 +289,10 @@ fn run(load: &[u8], job: &[u8]) {
         6 => lists(load, job, kind, count),
         7 => refusals_on_sheet(sheet_of(load, job), count),
         8 => refusals_on_workspace(workspace_of(load, job), count),
-        _ => text(b": no such kind\n"),
+        9 => lists(load, job, kind, count),
+        _ => text(b": no such kind"),
     }
+    text(b"\n");
 }
 
 fn space() -> [u8; 512]

@@ -1,4 +1,4 @@
-//! The listing of points behind edits by a plain loop, as one would write it in Rust: what a list is timed beside.
+//! The listing of points behind edits, and in a box, by a plain loop, as one would write it in Rust: what lists and fits are timed beside.
 
 /// The eight orientations, by their numbers 1 to 8 in this order.
 #[derive(Clone, Copy)]
@@ -112,6 +112,62 @@ pub fn list(
     edits: impl Iterator<Item = Edit> + Clone,
     out: &mut [u32],
 ) -> Result<Head, u32> {
+    list_as(frame, points, primary, edits, |row| row, out)
+}
+
+/// Lists them in a box; 12 where it has a zero side, 19 where it has not the shape of the frame that the edits leave.
+pub fn fit(
+    frame: [u32; 2],
+    points: &[[u32; 6]],
+    primary: usize,
+    edits: impl Iterator<Item = Edit> + Clone,
+    to: [u32; 2],
+    out: &mut [u32],
+) -> Result<Head, u32> {
+    if to.contains(&0) {
+        return Err(12);
+    }
+    let from = carried(frame, points[primary], edits.clone()).frame;
+    if !same_shape(from, to) {
+        return Err(19);
+    }
+    let head = list_as(frame, points, primary, edits, |row| scaled(row, from, to), out)?;
+    Ok(Head { frame: to, ..head })
+}
+
+/// Whether two frames have one shape, to within a pixel of rounding.
+fn same_shape([w, h]: [u32; 2], [a, b]: [u32; 2]) -> bool {
+    let [across, down] = [(w, b), (h, a)].map(|(one, other)| u64::from(one) * u64::from(other));
+    across.abs_diff(down) <= u64::from(w.max(h).max(a).max(b))
+}
+
+/// A point's six numbers in another frame. Its area has sides of at least a pixel and is trimmed to the frame, or it has none.
+fn scaled([number, x, y, width, height, in_focus]: [u32; 6], from: [u32; 2], to: [u32; 2]) -> [u32; 6] {
+    let center = [scale(x, from[0], to[0]), scale(y, from[1], to[1])];
+    let side = |side, axis: usize| {
+        let nearer = center[axis].min(to[axis] - center[axis]);
+        scale(side, from[axis], to[axis]).max(1).min(2 * nearer)
+    };
+    let area = if (width, height) == (0, 0) { [0; 2] } else { [side(width, 0), side(height, 1)] };
+    let area = if area.contains(&0) { [0; 2] } else { area };
+    [number, center[0], center[1], area[0], area[1], in_focus]
+}
+
+/// A number on a side of one frame, on that of another: to the nearest pixel, a half up.
+fn scale(value: u32, old: u32, new: u32) -> u32 {
+    let scaled = (u64::from(value) * u64::from(new) + u64::from(old / 2)) / u64::from(old);
+    u32::try_from(scaled).unwrap_or(u32::MAX)
+}
+
+/// Lists the points, each as `measured` gives it.
+fn list_as(
+    frame: [u32; 2],
+    points: &[[u32; 6]],
+    primary: usize,
+    edits: impl Iterator<Item = Edit> + Clone,
+    measured: impl Fn([u32; 6]) -> [u32; 6],
+    out: &mut [u32],
+) -> Result<Head, u32> {
     let mut rows = [[0; 6]; 39];
     let mut head = Head { frame, count: 0, index: 0 };
     for (i, &point) in points.iter().enumerate() {
@@ -121,7 +177,7 @@ pub fn list(
             head.index = head.count;
         }
         if place.listed {
-            rows[head.count] = [point[0], place.center[0], place.center[1], place.area[0], place.area[1], point[5]];
+            rows[head.count] = measured([point[0], place.center[0], place.center[1], place.area[0], place.area[1], point[5]]);
             head.count += 1;
         }
     }

@@ -19,6 +19,7 @@ use std::time::{Duration, Instant};
 use blocks::{Load, call_line, grown, stored, with_all_points};
 use edits::{Edit, ORIENTATIONS, Orientation};
 use oracle::{Answer, FocusOrigin};
+use states::NO_BOX;
 
 const ROUNDS: usize = 7;
 const PASSES: usize = 20;
@@ -157,7 +158,7 @@ fn lists_table(root: &Path, load: &[u8], sheet: states::Sheet) {
     let row = |name: &str, standing: u8, edit: Edit| {
         let edits = vec![edit; standing as usize];
         let plain = plain_list_time(sheet, &edits);
-        let own = nanoseconds_of(|count| program_time(&state_bench, &states::job(load, 5, count, standing, edit))) / 1e3;
+        let own = nanoseconds_of(|count| program_time(&state_bench, &states::job(load, 5, count, standing, edit, NO_BOX))) / 1e3;
         println!("| {name} | {plain:.2} | {own:.2} | {:.1} | {:.1} |", own / plain, line_time(&focusdesk, &edits));
         own
     };
@@ -187,10 +188,10 @@ fn nanoseconds_of(time: impl Fn(u32) -> Duration) -> f64 {
 }
 
 /// Nanoseconds for one call of a kind by the plain states, which must end as the program does before their time means anything.
-fn plain_time<C: states::Calling>(program: &Path, load: &[u8], sheet: states::Sheet, kind: u8, edit: Edit) -> f64 {
-    let plain = |count| states::plain::<C>(sheet, kind, edit, count, &mut [0; focuspoints::LISTING]);
+fn plain_time<C: states::Calling>(program: &Path, load: &[u8], sheet: states::Sheet, kind: u8, edit: Edit, to: [u32; 2]) -> f64 {
+    let plain = |count| states::plain::<C>(sheet, kind, edit, to, count, &mut [0; focuspoints::LISTING]);
     for count in [1, 65] {
-        assert_eq!(plain(count), program_text(program, &states::job(load, kind, count, 1, edit)));
+        assert_eq!(plain(count), program_text(program, &states::job(load, kind, count, 1, edit, to)));
     }
     nanoseconds_of(|count| {
         shortest(|| {
@@ -199,13 +200,15 @@ fn plain_time<C: states::Calling>(program: &Path, load: &[u8], sheet: states::Sh
     })
 }
 
-/// One kind of calls on a state. Both sides must list the same behind the edit that stands before.
-fn state_row(program: &Path, load: &[u8], sheet: states::Sheet, (kind, name, cut): (u8, &str, bool)) {
+/// One kind of calls on a state. Both sides must list and fit the same behind the edit that stands before.
+fn state_row(program: &Path, load: &[u8], sheet: states::Sheet, (kind, name, cut, to): (u8, &str, bool, [u32; 2])) {
     let edit = sheet.turn_or_cut(cut);
-    assert_eq!(states::listed_behind(sheet, edit), listed_behind(&[edit]), "{name}");
-    let apart = plain_time::<states::Apart>(program, load, sheet, kind, edit);
-    let free = plain_time::<states::Free>(program, load, sheet, kind, edit);
-    let own = nanoseconds_of(|count| program_time(program, &states::job(load, kind, count, 1, edit)));
+    let fit = call_line(&[&[7], to.map(u32::to_be_bytes).as_flattened()].concat());
+    let text = String::from_utf8(focuspoints::script(&[&script_of(&[edit]), LIST, &fit].concat())).unwrap();
+    assert_eq!(format!("ok\nok\n{}", states::text_behind(sheet, edit, to)), text, "{name}");
+    let apart = plain_time::<states::Apart>(program, load, sheet, kind, edit, to);
+    let free = plain_time::<states::Free>(program, load, sheet, kind, edit, to);
+    let own = nanoseconds_of(|count| program_time(program, &states::job(load, kind, count, 1, edit, to)));
     println!("| {name} | {apart:.0} | {free:.0} | {own:.0} | {:.1} | {:.1} |", own / apart, own / free);
 }
 

@@ -5,19 +5,30 @@ use std::hint::black_box;
 
 use crate::edits::{self, Edit, Head, ORIENTATIONS, TURN};
 
-/// What is timed: a kind of state_bench, its name, and whether a cut of the whole frame stands before it and not a turn. A state that comes
-/// later has its kinds here and in `plain`.
-pub const KINDS: [(u8, &str, bool); 9] = [
-    (1, "a turn and a back, on a sheet", false),
-    (2, "a turn and a back, on a workspace", false),
-    (1, "a cut and a back, on a sheet behind a cut", true),
-    (7, "a refused orientation, on a sheet", false),
-    (8, "a refused orientation, on a workspace", false),
-    (4, "a keep, on a workspace with eight names", false),
-    (3, "a keep and a return, on a workspace with eight names", false),
-    (5, "a list of 39 points behind a turn, on a sheet", false),
-    (6, "a list of 39 points behind a turn, on a workspace", false),
+/// The kinds of state_bench that write into a buffer, whose sum is printed.
+const LISTS: [u8; 3] = [5, 6, 9];
+
+/// The box of a job that fits nothing.
+pub const NO_BOX: [u32; 2] = [0; 2];
+
+/// What is timed: a kind of state_bench, its name, whether a cut of the whole frame stands before it and not a turn, and its box. A state
+/// that comes later has its kinds here and in `plain`.
+pub const KINDS: [(u8, &str, bool, [u32; 2]); 11] = [
+    (1, "a turn and a back, on a sheet", false, NO_BOX),
+    (2, "a turn and a back, on a workspace", false, NO_BOX),
+    (1, "a cut and a back, on a sheet behind a cut", true, NO_BOX),
+    (7, "a refused orientation, on a sheet", false, NO_BOX),
+    (8, "a refused orientation, on a workspace", false, NO_BOX),
+    (4, "a keep, on a workspace with eight names", false, NO_BOX),
+    (3, "a keep and a return, on a workspace with eight names", false, NO_BOX),
+    (5, "a list of 39 points behind a turn, on a sheet", false, NO_BOX),
+    (6, "a list of 39 points behind a turn, on a workspace", false, NO_BOX),
+    (9, "a fit of 39 points behind a turn, on a sheet", false, [1004, 1504]),
+    (9, "a refused fit (19) behind a turn, on a sheet", false, [800, 1200]),
 ];
+
+/// A listing's head with mode and origin, or the number that refuses it.
+type Listed = Result<(Head, [u32; 2]), u32>;
 
 /// The points of a load, and the edits that stand.
 #[derive(Clone, Copy)]
@@ -122,12 +133,21 @@ impl Sheet {
         (0, self)
     }
 
-    /// The listing's head with mode and origin, and the points in the buffer.
-    fn list(self, out: &mut [u32]) -> Result<(Head, [u32; 2]), u32> {
+    /// Lists the points into the buffer.
+    fn list(self, out: &mut [u32]) -> Listed {
         if !self.is_usable() {
             return Err(7);
         }
         let head = edits::list(self.frame, &self.points[..self.count], self.primary, self.standing(), out)?;
+        Ok((head, [self.mode, self.origin]))
+    }
+
+    /// Lists them in a box.
+    fn fit(self, to: [u32; 2], out: &mut [u32]) -> Listed {
+        if !self.is_usable() {
+            return Err(7);
+        }
+        let head = edits::fit(self.frame, &self.points[..self.count], self.primary, self.standing(), to, out)?;
         Ok((head, [self.mode, self.origin]))
     }
 }
@@ -169,7 +189,7 @@ impl Workspace {
         (answer, self)
     }
 
-    fn list(self, out: &mut [u32]) -> Result<(Head, [u32; 2]), u32> {
+    fn list(self, out: &mut [u32]) -> Listed {
         self.sheet.list(out)
     }
 
@@ -251,7 +271,7 @@ fn over<State>(mut state: State, count: u32, mut once: impl FnMut(State) -> (u32
     (last, state)
 }
 
-fn list_number(answer: Result<(Head, [u32; 2]), u32>) -> u32 {
+fn list_number(answer: Listed) -> u32 {
     black_box(answer).err().unwrap_or(0)
 }
 
@@ -261,7 +281,7 @@ fn both<C: Calling, State>(state: State, first: impl Fn(State) -> (u32, State), 
 }
 
 /// What state_bench prints for a job behind one edit, by the plain states. `out` is where lists go.
-pub fn plain<C: Calling>(sheet: Sheet, kind: u8, edit: Edit, count: u32, out: &mut [u32]) -> String {
+pub fn plain<C: Calling>(sheet: Sheet, kind: u8, edit: Edit, to: [u32; 2], count: u32, out: &mut [u32]) -> String {
     let sheet = sheet.edited(edit).1;
     let workspace = (0..8).fold(Workspace::new(sheet), |workspace, place| workspace.keep(&name_at(place)).1);
     let name = name_at(7);
@@ -283,6 +303,7 @@ pub fn plain<C: Calling>(sheet: Sheet, kind: u8, edit: Edit, count: u32, out: &m
         })),
         7 => on_sheet(over(sheet, count, |sheet| C::call(sheet, |sheet| sheet.orient(black_box(0))))),
         8 => on_workspace(over(workspace, count, |workspace| C::call(workspace, |workspace| workspace.orient(black_box(0))))),
+        9 => on_sheet(over(sheet, count, |sheet| (list_number(C::call(sheet, |sheet| sheet.fit(black_box(to), black_box(out)))), sheet))),
         _ => panic!("no kind {kind}"),
     };
     let answer = match last {
@@ -290,14 +311,29 @@ pub fn plain<C: Calling>(sheet: Sheet, kind: u8, edit: Edit, count: u32, out: &m
         Some(0) => "ok".to_string(),
         Some(number) => format!("no {number}"),
     };
-    format!("kind {kind}, times {count}: {answer}, standing {standing}\n")
+    let sum = || out.iter().fold(0, |sum: u32, &number| sum.wrapping_add(number));
+    let ending = if LISTS.contains(&kind) { format!(", sum {}", sum()) } else { String::new() };
+    format!("kind {kind}, times {count}: {answer}, standing {standing}{ending}\n")
 }
 
-/// What the sheet lists behind an edit.
-pub fn listed_behind(sheet: Sheet, edit: Edit) -> (Head, Vec<u32>) {
-    let mut out = vec![0; 6 * sheet.count];
-    let (head, _) = sheet.edited(edit).1.list(&mut out).unwrap();
-    (head, out)
+/// The text of a list behind an edit, and of a fit.
+pub fn text_behind(sheet: Sheet, edit: Edit, to: [u32; 2]) -> String {
+    let sheet = sheet.edited(edit).1;
+    let mut out = [0; 6 * 39];
+    let list = text(sheet.list(&mut out), &out);
+    list + &text(sheet.fit(to, &mut out), &out)
+}
+
+/// An answer's text, its points from the buffer.
+fn text(answer: Listed, out: &[u32]) -> String {
+    match answer {
+        Err(number) => format!("no {number}\n"),
+        Ok((Head { frame: [width, height], count, index }, [mode, origin])) => {
+            let head = format!("frame {width} {height} points {count} primary {index} mode {mode} origin {origin}\n");
+            let line = |point: &[u32]| point.iter().map(u32::to_string).collect::<Vec<_>>().join(" ") + "\n";
+            head + &out.chunks(6).take(count).map(line).collect::<String>()
+        }
+    }
 }
 
 /// The sizes of the two states, in bytes.
@@ -305,13 +341,15 @@ pub fn sizes() -> [usize; 2] {
     [size_of::<Sheet>(), size_of::<Workspace>()]
 }
 
-/// A job for state_bench behind its load: its kind, how many times, and how many of an edit stand before.
-pub fn job(load: &[u8], kind: u8, count: u32, standing: u8, edit: Edit) -> Vec<u8> {
+/// A job for state_bench behind its load: its kind, how many times, how many of an edit stand before, and a box behind the longest edit.
+pub fn job(load: &[u8], kind: u8, count: u32, standing: u8, edit: Edit, to: [u32; 2]) -> Vec<u8> {
     let mut input = load.to_vec();
     input.push(kind);
     input.extend(count.to_be_bytes());
     input.push(standing);
     input.extend(edit.call());
+    input.resize(load.len() + 23, 0);
+    input.extend(to.map(u32::to_be_bytes).as_flattened());
     input.resize(2 * load.len(), 0);
     input
 }
