@@ -2,15 +2,13 @@
 -- and fits the present frame, so that no side of that is zero; a frame has its own shape so many times; and scaling a point that fits is
 -- then a multiplication. Assumes nothing.
 use Prim.Native.Nat.{ℕ, _*_, _≤_, _<_}
-use mathlib.Core.Bool.{false}
 use mathlib.Core.List.{List, [], _∷_, map}
 use mathlib.Core.Path.{_≡_, refl, sym, ap, ap₂, _∙_}
 use native.Mathlib.Nat.{one-mul, mul-pos}
 use native.Mathlib.Omega.{arith}
 use Rattle.reading.specs.declared.geometry.Size.{Size}
 use Rattle.placing.specs.declared.focus.FocusPoint.{FocusPoint}
-use Rattle.placing.specs.Fit.{by, hasZeroSide}
-use Rattle.placing.specs.FittingLaws.{OnFrame}
+use Rattle.placing.specs.Fit.{by}
 use Rattle.placing.specs.Load.{Focus}
 use Rattle.placing.specs.Scale.{scaledPoint}
 use Rattle.placing.specs.Sound.{AllFit}
@@ -18,7 +16,7 @@ use Rattle.placing.proofs.Fitting.{no-zero-side, fits-on-frame}
 use Rattle.shape.specs.ShapeLaws.{times, timesPoint}
 use Rattle.shape.proofs.Shapes.{times-shape}
 use Rattle.shape.proofs.Times.{scaled-times}
-use Rattle.journal.specs.Journal.{Change, holds, presentFrame, listing, primaryIndex, fitted, written, journalList, journalFit}
+use Rattle.journal.specs.Journal.{Change, holds, presentFrame, listing, primaryIndex, written, journalList, journalFit}
 use Rattle.journal.specs.Calls.{Call, list, fit, journalStep}
 use Rattle.journal.specs.Claim.{after}
 use Rattle.journal.specs.Laws.{FitsTimes, FitsTheFrame}

@@ -2,7 +2,7 @@
 -- point. The idea: what is to be divided is a multiple of the frame's side and less than one more, and a side that fits its frame fits
 -- it so many times. Assumes nothing.
 use Prim.Native.Nat.{ℕ, _+_, _*_, _/_, _≤_, _<_}
-use mathlib.Core.Bool.{true, false}
+use mathlib.Core.Bool.{true}
 use mathlib.Core.Path.{_≡_, sym, ap, ap₂, _∙_}
 use lib.Dec.{eqb}
 use native.Mathlib.Nat.{mul-left-comm, mul-assoc, mul-add, mul-zero, mul-pos, mul-le-mul-left, mul-add-div-right, div-eq-of-lt, min-eq-left, add-zero}
@@ -11,11 +11,10 @@ use borrow.Author.Tests.{eqb-true}
 use Rattle.reading.specs.declared.geometry.Size.{Size}
 use Rattle.reading.specs.declared.geometry.Point.{Point}
 use Rattle.laws.proofs.Tests.{by-cond, both}
-use Rattle.placing.specs.declared.focus.FocusPoint.{FocusPoint}
 use Rattle.placing.specs.Fit.{by, axisFits, noArea, areaIfAnyFits, pointFits}
 use Rattle.placing.specs.Scale.{scaleOf, trimOf, scaledSide, scaledCenter, scaledArea, keptArea, scaledSize, scaledPoint}
 use Rattle.placing.proofs.Fitting.{some-width, some-height, no-zero-side, axis-facts, AreaOn, area-on, area-of, fits-on-frame}
-use Rattle.shape.specs.ShapeLaws.{times, timesPoint, ScaledTimes}
+use Rattle.shape.specs.ShapeLaws.{times, ScaledTimes}
 
 -- ---- one axis
 scale-times : (k v old : ℕ) → 0 < old → k * v ≤ 4294967295 → scaleOf v old (k * old) ≡ k * v
