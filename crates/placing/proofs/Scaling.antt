@@ -21,12 +21,12 @@ pub no-side : (v old new : ℕ) → old ≡ 0 → 0 ≡ scaleOf v old new
 unfolding scaleOf
 no-side v old new e = rw (e, div-zero)
 
--- before the cap
-abbrev quotient : ℕ → ℕ → ℕ → ℕ
+-- before the cap: within half a pixel
+abbrev pub quotient : ℕ → ℕ → ℕ → ℕ
 quotient v old new = (v * new + old / 2) / old
 
 module _ (v old new : ℕ) (pos : 0 < old) where
-  half : HalfPixel v old new (quotient v old new)
+  pub half : HalfPixel v old new (quotient v old new)
   half =
       let lo : quotient v old new * old ≤ v * new + old / 2 = div-mul-le-self (v * new + old / 2) old in
       let hi : v * new + old / 2 < quotient v old new * old + old = lt-div-mul-add pos in

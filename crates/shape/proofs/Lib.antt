@@ -1,2 +1,3 @@
 pub mod Shapes
 pub mod Times
+pub mod Blank

@@ -17,7 +17,7 @@ use Rattle.placing.proofs.Fitting.{some-width, some-height, no-zero-side, axis-
 use Rattle.shape.specs.ShapeLaws.{times, ScaledTimes}
 
 -- ---- one axis
-scale-times : (k v old : ℕ) → 0 < old → k * v ≤ 4294967295 → scaleOf v old (k * old) ≡ k * v
+pub scale-times : (k v old : ℕ) → 0 < old → k * v ≤ 4294967295 → scaleOf v old (k * old) ≡ k * v
 unfolding scaleOf
 scale-times k v old pos l =
     let z : old / 2 / old ≡ 0 = div-eq-of-lt (omega arith) in

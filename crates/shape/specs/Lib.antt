@@ -1,2 +1,4 @@
 pub mod Shape
 pub mod ShapeLaws
+pub mod WorkedBox
+pub mod WorkedBoxLaws
