@@ -138,7 +138,7 @@ pub worked-times : WorkedTimes
 worked-times k frame wide high w h = (
   blank-height frame (k * frame .width) ∙ ap (by (k * frame .width)) (scale-times k (frame .height) (frame .width) wide h),
   blank-width frame (k * frame .height)
-  ∙ ap (λ (n : ℕ). by n (k * frame .height)) (scale-times k (frame .width) (frame .height) high w),
+      ∙ ap (λ (n : ℕ). by n (k * frame .height)) (scale-times k (frame .width) (frame .height) high w),
 )
 
 -- ---- how long the missing side is
@@ -232,7 +232,7 @@ pub has-shape-in-reach : HasShapeInReach
 has-shape-in-reach f n s l = (
   in-reach f n (s .wide) (s .across) (s .down) l,
   let i = in-reach (swapped f) n (s .high) (s .down) (s .across) l in
-  (λ e. i .0 (shape-swapped f n ∙ e), λ r. sym (shape-swapped f n) ∙ i .1 r),
+      (λ e. i .0 (shape-swapped f n ∙ e), λ r. sym (shape-swapped f n) ∙ i .1 r),
 )
 
 pub column-in-reach : ColumnInReach

@@ -1,4 +1,4 @@
--- 01, "After the sheet", and 2026-05: what list and fit answer and write, for every sheet and buffer.
+-- 01, "After the sheet", 2026-05 and 2026-06: what list and fit answer and write, for every sheet and buffer.
 use Prim.Native.Nat.{ℕ, zero, suc, _*_}
 use mathlib.Core.Bool.{Bool, cond}
 use mathlib.Core.List.{List, [], _∷_, _++_, map}
@@ -10,6 +10,7 @@ use Rattle.placing.specs.declared.focus.FocusPoint.{FocusPoint}
 use Rattle.placing.specs.Fit.{hasZeroSide}
 use Rattle.placing.specs.Scale.{scaledPoint}
 use Rattle.shape.specs.Shape.{sameShape}
+use Rattle.shape.specs.WorkedBox.{workedBox}
 use Rattle.sheet.specs.declared.edits.Carried.{Carried}
 use Rattle.sheet.specs.Listing.{headNumbers, flat, over}
 use Rattle.sheet.specs.declared.Sheet.{Sheet}
@@ -59,10 +60,10 @@ listBuffer s b = cond (usable s) (cond (isShort s (length b)) b (over (flat (lis
 unfoldable pub scaledAll : Size → Size → List FocusPoint → List FocusPoint
 scaledAll old new ps = map (λ p. scaledPoint p old new) ps
 
--- "Fit answers .. as list does, with the box as frame": 12, then 02's "19, shapes differ, between 12 and 13", of the present frame and
--- the box
-unfoldable pub fitOutcome : Sheet → Size → ℕ → Outcome (List ℕ)
-fitOutcome s box m =
+-- "Fit answers .. as list does, with the box as frame", in the box that it works with: 12, then 02's "19, shapes differ, between 12 and
+-- 13", of the present frame and that box
+unfoldable pub outcomeInBox : Sheet → Size → ℕ → Outcome (List ℕ)
+outcomeInBox s box m =
     cond (usable s)
     (cond (hasZeroSide box) (refused 12)
     (cond (sameShape (presentFrame s) box)
@@ -70,12 +71,19 @@ fitOutcome s box m =
     (refused 19)))
     (refused 7)
 
--- the buffer that fit leaves
-unfoldable pub fitBuffer : Sheet → Size → List ℕ → List ℕ
-fitBuffer s box b =
+-- the buffer that it leaves
+unfoldable pub bufferInBox : Sheet → Size → List ℕ → List ℕ
+bufferInBox s box b =
     cond (usable s)
     (cond (hasZeroSide box) b
     (cond (sameShape (presentFrame s) box)
     (cond (isShort s (length b)) b (over (flat (scaledAll (presentFrame s) box (listing s))) b))
     b))
     b
+
+-- 02: "A box with one zero side is now answered", in that whose missing side is worked out from the present frame
+unfoldable pub fitOutcome : Sheet → Size → ℕ → Outcome (List ℕ)
+fitOutcome s box m = outcomeInBox s (workedBox (presentFrame s) box) m
+
+unfoldable pub fitBuffer : Sheet → Size → List ℕ → List ℕ
+fitBuffer s box b = bufferInBox s (workedBox (presentFrame s) box) b

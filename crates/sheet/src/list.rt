@@ -53,32 +53,34 @@ impl Sheet {
         })
     }
 
-    // Writes the listed points as `list` does, measured in a frame of `size`, which must have the present frame's shape.
+    // Writes the listed points as `list` does, measured in a box. A blank side of `size` (0) is worked out from the present frame; the box
+    // must then have the present frame's shape.
     pub fn fit(self, size: Size, out: &mut [u32]) -> ListAnswer
         ensures { λ r. ⌜ (listMeans r ≡ fitOutcome self size (length (now (out .entry)))) × (now (out .exit) ≡ fitBuffer self size (now (out .entry))) ⌝ }
     {
         if !self.is_usable() {
             return ListAnswer::Empty;
         }
-        if placing::focus::has_zero_side(size) {
-            return ListAnswer::ZeroBox;
-        }
         let present = self.present(0, self.count);
         let count = present.count;
         let points = present.points;
         let place = present.primary_place;
         let frame = place.frame;
-        if !shape::same_shape(frame, size) {
+        let worked = shape::worked_box(frame, size);
+        if placing::focus::has_zero_side(worked) {
+            return ListAnswer::ZeroBox;
+        }
+        if !shape::same_shape(frame, worked) {
             return ListAnswer::ShapesDiffer;
         }
-        let scaled = scaled_points(points, count, frame, size);
+        let scaled = scaled_points(points, count, frame, worked);
         if !crate::listing::write_points(scaled, count, out) {
             return ListAnswer::Short;
         }
         let mode = self.area_mode;
         let origin = self.origin;
         ListAnswer::Listed(ListHead {
-            frame: size,
+            frame: worked,
             count,
             index: present.index,
             mode,
