@@ -16,7 +16,8 @@ use Rattle.placing.proofs.Fitting.{no-zero-side, fits-on-frame}
 use Rattle.shape.specs.ShapeLaws.{times, timesPoint}
 use Rattle.shape.proofs.Shapes.{times-shape}
 use Rattle.shape.proofs.Times.{scaled-times}
-use Rattle.journal.specs.Journal.{Change, holds, presentFrame, listing, primaryIndex, written, journalList, journalFit}
+use Rattle.shape.proofs.Blank.{two-sides-stay}
+use Rattle.journal.specs.Journal.{Change, holds, presentFrame, listing, primaryIndex, written, journalList, answerInBox, journalFit}
 use Rattle.journal.specs.Calls.{Call, list, fit, journalStep}
 use Rattle.journal.specs.Claim.{after}
 use Rattle.journal.specs.Laws.{FitsTimes, FitsTheFrame}
@@ -37,12 +38,13 @@ on-present calls f row e =
     (o .wide, o .high)
 
 pub fits-times : FitsTimes
-unfolding journalStep journalFit
+unfolding journalStep journalFit answerInBox
 fits-times calls f row e k pos w h b =
     let g = presentFrame f row in
     let o = on-present calls f row e in
+    let z = no-zero-side (times k g) (mul-pos pos (o .0)) (mul-pos pos (o .1)) in
     answered calls (holds f row) (fit (times k g) b) e
-    ∙ rw (no-zero-side (times k g) (mul-pos pos (o .0)) (mul-pos pos (o .1)), times-shape k g)
+    ∙ rw (two-sides-stay g (times k g) z, z, times-shape k g)
     (ap (λ (ps : List FocusPoint). written f row (times k g) ps b)
     (all-times k g pos w h (listing f row) (listed-fits (f .frame) row (f .points) (right calls f row e .sound .fit))))
 

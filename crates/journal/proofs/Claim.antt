@@ -33,12 +33,12 @@ use Rattle.sheet.specs.Orientation.{eight, orientationNumber, orientationOf}
 use Rattle.sheet.specs.Place.{wordsOf, moved, placed, isGoodCut}
 use Rattle.sheet.specs.Sheet.{leaves, keptBy, freshSheet, loadedSheet, loadSheet, usable, placedAt, presentFrame as frameOf, withEdits, addEdit, ifOpen, orientTo, orientSheet, keepsPrimary, cutSheet, backSheet}
 use Rattle.sheet.specs.Listing.{headNumbers, flat}
-use Rattle.sheet.specs.Lists.{listing as sheetListing, listCount, listIndex, isShort, headIn, listOutcome, listBuffer, scaledAll, fitOutcome, fitBuffer}
+use Rattle.sheet.specs.Lists.{listing as sheetListing, listCount, listIndex, isShort, headIn, listOutcome, listBuffer, scaledAll, outcomeInBox, bufferInBox, fitOutcome, fitBuffer}
 use Rattle.sheet.proofs.Buffer.{flat-length}
 use Rattle.placing.proofs.Places.{length-places, take-places}
 use Rattle.sheet.proofs.OrientationNumbers.{stands-for-one}
 use Rattle.sheet.proofs.Words.{stored-last}
-use Rattle.journal.specs.Journal.{Change, cut, orient, Journal, empty, holds, frameAfter, stillListed, listed, presentFrame, listing, primaryIndex, primaryAfter, fitted, Answer, no, ok, ended, head, isBadCut, isOutside, isFull, changeRefusal, backRefusal, journalLoad, journalChange, journalBack, numbers, written, journalList, journalFit}
+use Rattle.journal.specs.Journal.{Change, cut, orient, Journal, empty, holds, frameAfter, stillListed, listed, presentFrame, listing, primaryIndex, primaryAfter, fitBox, fitted, Answer, no, ok, ended, head, isBadCut, isOutside, isFull, changeRefusal, backRefusal, journalLoad, journalChange, journalBack, numbers, written, journalList, answerInBox, journalFit}
 use Rattle.journal.specs.Calls.{Call, load, change, back, list, fit, journalStep, runJournal}
 use Rattle.journal.specs.SheetCalls.{afterEdit, afterList, changed, sheetStep, runSheet}
 use Rattle.journal.specs.Claim.{Claim}
@@ -270,10 +270,10 @@ lists s h b =
     rw (usable-held s h, present-frame s, listed-held s h)
     (writes s h (frameAfter (s .frame) (rowOf s)) (listing (loadOf s) (rowOf s)) b refl)
 
-fits : (s : Sheet) (h : Held s) (box : Size) (b : List ℕ)
-    → afterList (fitOutcome s box (length b)) (fitBuffer s box b) s .0 ≡ journalFit (holds (loadOf s) (rowOf s)) box b
-unfolding fitOutcome fitBuffer scaledAll journalFit
-fits s h box b =
+boxes : (s : Sheet) (h : Held s) (box : Size) (b : List ℕ)
+    → afterList (outcomeInBox s box (length b)) (bufferInBox s box b) s .0 ≡ answerInBox (loadOf s) (rowOf s) box b
+unfolding outcomeInBox bufferInBox scaledAll answerInBox
+boxes s h box b =
     rw (usable-held s h, present-frame s, listed-held s h) (by (hasZeroSide box) (sameShape (presentFrame (loadOf s) (rowOf s)) box))
   where
     ps : List FocusPoint
@@ -285,6 +285,11 @@ fits s h box b =
     by true t = refl
     by false false = refl
     by false true = writes s h box ps b (length-map (listing (loadOf s) (rowOf s)) (λ p. scaledPoint p (presentFrame (loadOf s) (rowOf s)) box))
+
+fits : (s : Sheet) (h : Held s) (box : Size) (b : List ℕ)
+    → afterList (fitOutcome s box (length b)) (fitBuffer s box b) s .0 ≡ journalFit (holds (loadOf s) (rowOf s)) box b
+unfolding fitOutcome fitBuffer journalFit
+fits s h box b = rw (present-frame s) (boxes s h (fitBox (loadOf s) (rowOf s) box) b)
 
 -- ---- load
 pub loads : (s : Sheet) (g : Good s) (o : Outcome Focus) → Sound o → Agree (afterEdit (loadSheet s o)) (journalLoad (journalOf s) o)
@@ -309,7 +314,7 @@ abbrev pub AgreeAt : Sheet → Call → Type 0
 AgreeAt s c = Agree (sheetStep s c) (journalStep (journalOf s) c)
 
 blank-step : (s : Sheet) (e : s .loaded ≡ false) (c : Call) → AgreeAt s c
-unfolding sheetStep journalStep orientSheet backSheet cutSheet ifOpen listOutcome listBuffer fitOutcome fitBuffer journalChange journalBack journalList journalFit
+unfolding sheetStep journalStep orientSheet backSheet cutSheet ifOpen listOutcome listBuffer fitOutcome fitBuffer outcomeInBox bufferInBox journalChange journalBack journalList journalFit
 blank-step s e (load block raw picture model) =
     loads s (blank e) (focusOf block raw picture model) (focus-sound block raw picture model)
 blank-step s e (change (cut l t w h)) = rw (usable-blank s e, journal-blank s e) (refl, refl, blank e)

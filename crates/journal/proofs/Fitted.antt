@@ -15,7 +15,8 @@ use Rattle.placing.proofs.Fitting.{fits-on-frame}
 use Rattle.placing.proofs.Scaled.{scaled-fits, scaled-near}
 use Rattle.placing.specs.Load.{Focus, noPoint}
 use Rattle.shape.proofs.Shapes.{same-of}
-use Rattle.journal.specs.Journal.{Change, holds, presentFrame, listing, fitted, written, journalFit}
+use Rattle.shape.proofs.Blank.{worked-capped}
+use Rattle.journal.specs.Journal.{Change, holds, presentFrame, listing, fitted, written, answerInBox, journalFit}
 use Rattle.journal.specs.Calls.{fit, journalStep}
 use Rattle.journal.specs.Claim.{FitsExactly, FitIsNear}
 use Rattle.journal.proofs.Answers.{answered}
@@ -26,12 +27,12 @@ pub fitted-length : (f : Focus) (row : List Change) (box : Size) → length (fit
 fitted-length f row box = length-map (listing f row) (λ p. scaledPoint p (presentFrame f row) box)
 
 pub fits-exactly : FitsExactly
-unfolding journalStep journalFit written
-fits-exactly calls f row e box g b l =
+unfolding journalStep journalFit answerInBox written
+fits-exactly calls f row e given box w g b l =
     let k : 6 * length (fitted f row box) ≤ length b =
     omega (arith, fitted-length f row box, ap length (listing-is-shown f row .0)) in
-    answered calls (holds f row) (fit box b) e
-    ∙ rw (g .no-zero-side, same-of (presentFrame f row) box (g .same-shape), le-ltb (length b) (6 * length (fitted f row box)) k)
+    answered calls (holds f row) (fit given b) e
+    ∙ rw (← w, g .no-zero-side, same-of (presentFrame f row) box (g .same-shape), le-ltb (length b) (6 * length (fitted f row box)) k)
 
 -- the i-th of a list of points, scaled
 map-at : (g : FocusPoint → FocusPoint) (ps : List FocusPoint) (i : ℕ) → i < length ps → getD (map g ps) i noPoint ≡ g (getD ps i noPoint)
@@ -40,7 +41,9 @@ map-at g (p ∷ ps) zero l = refl
 map-at g (p ∷ ps) (suc i) l = map-at g ps i (omega arith)
 
 pub fit-is-near : FitIsNear
-fit-is-near calls f row e box t w h i l =
+fit-is-near calls f row e given box v t x y i l =
+    let w : box .width ≤ 4294967295 = rw v (worked-capped (presentFrame f row) given x y .0) in
+    let h : box .height ≤ 4294967295 = rw v (worked-capped (presentFrame f row) given x y .1) in
     let r = right calls f row e in
     let g = presentFrame f row in
     let p = getD (listing f row) i noPoint in

@@ -13,6 +13,7 @@ use Rattle.placing.specs.Fit.{hasZeroSide}
 use Rattle.placing.specs.Focus.{focusOf}
 use Rattle.placing.specs.Load.{Focus}
 use Rattle.shape.specs.Shape.{sameShape}
+use Rattle.shape.specs.WorkedBox.{workedBox}
 use Rattle.sheet.specs.declared.edits.Edit.the-variants.{Cut}
 use Rattle.sheet.specs.declared.orientation.Orientation.{Orientation}
 use Rattle.sheet.specs.declared.Sheet.{Sheet}
@@ -20,7 +21,7 @@ use Rattle.sheet.specs.Sheet.{leaves, keptBy, loadSheet, usable, presentFrame, 
 use Rattle.sheet.specs.Orientation.{orientationOf}
 use Rattle.sheet.specs.Place.{isGoodCut}
 use Rattle.sheet.specs.Listing.{headNumbers, over, flat}
-use Rattle.sheet.specs.Lists.{listing as sheetListing, isShort, headIn, scaledAll, listOutcome, listBuffer, fitOutcome, fitBuffer}
+use Rattle.sheet.specs.Lists.{listing as sheetListing, isShort, headIn, scaledAll, listOutcome, listBuffer, outcomeInBox, bufferInBox, fitOutcome, fitBuffer}
 use Rattle.journal.specs.Journal.{Change, cut, orient, Answer}
 use Rattle.journal.specs.Calls.{Call, load, change, back, list, fit, lent}
 use Rattle.journal.specs.SheetCalls.{afterEdit, afterList, changed, sheetStep}
@@ -90,9 +91,9 @@ lists s b = by (usable s) (isShort s (length b))
     by true false = inl refl
     by false v = inr (refl, refl)
 
-fits : (s : Sheet) (box : Size) (b : List ℕ) → Keeps (afterList (fitOutcome s box (length b)) (fitBuffer s box b) s) s b
-unfolding fitOutcome fitBuffer
-fits s box b = by (usable s) (hasZeroSide box) (sameShape (presentFrame s) box) (isShort s (length b))
+boxes : (s : Sheet) (box : Size) (b : List ℕ) → Keeps (afterList (outcomeInBox s box (length b)) (bufferInBox s box b) s) s b
+unfolding outcomeInBox bufferInBox
+boxes s box b = by (usable s) (hasZeroSide box) (sameShape (presentFrame s) box) (isShort s (length b))
   where
     by : (u z t v : Bool)
         → Keeps (afterList (cond u (cond z (refused 12) (cond t (cond v (refused 13) (accepted (headNumbers (headIn box s)))) (refused 19))) (refused 7))
@@ -102,6 +103,10 @@ fits s box b = by (usable s) (hasZeroSide box) (sameShape (presentFrame s) box) 
     by true false true true = inr (refl, refl)
     by true false true false = inl refl
     by false z t v = inr (refl, refl)
+
+fits : (s : Sheet) (box : Size) (b : List ℕ) → Keeps (afterList (fitOutcome s box (length b)) (fitBuffer s box b) s) s b
+unfolding fitOutcome fitBuffer
+fits s box b = boxes s (workedBox (presentFrame s) box) b
 
 steps : (s : Sheet) (c : Call) → Keeps (sheetStep s c) s (lent c)
 unfolding sheetStep

@@ -16,7 +16,7 @@ use Rattle.placing.specs.Fit.{pointFits}
 use Rattle.placing.proofs.Fitting.{fits-on-frame}
 use Rattle.placing.specs.Load.{Focus}
 use Rattle.placing.specs.Sound.{SoundFocus, AllFit}
-use Rattle.journal.specs.Journal.{Change, cut, Journal, empty, holds, frameAfter, movedBy, carried, stillListed, ifListed, listed, presentFrame, listing, primaryIndex, primaryOf, primaryAfter, Answer, ok, ended, changeRefusal, backRefusal, journalChange, journalBack, written, journalList, journalFit}
+use Rattle.journal.specs.Journal.{Change, cut, Journal, empty, holds, frameAfter, movedBy, carried, stillListed, ifListed, listed, presentFrame, listing, primaryIndex, primaryOf, primaryAfter, Answer, ok, ended, changeRefusal, backRefusal, journalChange, journalBack, written, journalList, answerInBox, journalFit}
 use Rattle.journal.specs.Calls.{Call, change, back, list, fit, journalStep, journalAfter}
 use Rattle.journal.specs.Claim.{after}
 use Rattle.journal.specs.Laws.{ListAlike, wholeCut, WholeCut, BackUndoes, movedAll, EditMoves, StaysUnlisted}
@@ -80,7 +80,7 @@ module _ (f : Focus) (row other : List Change) (s : SoundFocus f)
   lists-alike b = rw (e, points-alike, index-alike)
 
   fits-alike : (box : Size) (b : List ℕ) → journalFit (holds f row) box b ≡ journalFit (holds f other) box b
-  unfolding journalFit written
+  unfolding journalFit answerInBox written
   fits-alike box b = rw (e, points-alike, index-alike)
 
 -- after two lists of calls whose journals hold such rows

@@ -20,7 +20,7 @@ use Rattle.placing.specs.Focus.{focusOf}
 use Rattle.placing.specs.Load.{Focus}
 use Rattle.shape.specs.Shape.{sameShape}
 use Rattle.shape.proofs.Shapes.{same-told, same-of, other-told, other-of}
-use Rattle.journal.specs.Journal.{Change, cut, orient, Journal, empty, holds, stillListed, presentFrame, listing, primaryAfter, fitted, Answer, no, ok, ended, isBadCut, isOutside, ownRefusal, changeRefusal, backRefusal, journalLoad, journalChange, journalBack, head, numbers, written, journalList, journalFit}
+use Rattle.journal.specs.Journal.{Change, cut, orient, Journal, empty, holds, stillListed, presentFrame, listing, primaryAfter, fitBox, fitted, Answer, no, ok, ended, isBadCut, isOutside, ownRefusal, changeRefusal, backRefusal, journalLoad, journalChange, journalBack, head, numbers, written, journalList, answerInBox, journalFit}
 use Rattle.journal.specs.Calls.{Call, load, change, back, list, fit, lent, isLoad, journalStep, journalAfter}
 use Rattle.journal.specs.Claim.{after, newest, lastFrom, heldLoad, HoldsLastLoad, EmptyBefore, BadCut, GoodCut, Refuses, notLoaded, isEmpty, full, badCut, dropsPrimary, outside, nothingStands, zeroBox, shapesDiffer, short, shortFit, RefusedExactly}
 use Rattle.journal.proofs.Answers.{answers}
@@ -210,21 +210,24 @@ written-told f row g ps b c n r e = by (ltb (length b) (6 * length ps)) refl e
     by true p y = same-number (r (ltb-true (length b) (6 * length ps) p)) y
     by false p y = absurd (never _ n y)
 
-fit-told : (f : Focus) (row : List Change) (box : Size) (b : List ℕ) (n : ℕ)
-    → journalFit (holds f row) box b .outcome ≡ refused n → Refuses (holds f row) (fit box b) n
-unfolding journalFit
-fit-told f row box b n e = by (hasZeroSide box) (sameShape g box) refl refl e
+fit-told : (f : Focus) (row : List Change) (given : Size) (b : List ℕ) (n : ℕ)
+    → journalFit (holds f row) given b .outcome ≡ refused n → Refuses (holds f row) (fit given b) n
+unfolding journalFit answerInBox
+fit-told f row given b n e = by (hasZeroSide box) (sameShape g box) refl refl e
   where
     g : Size
     g = presentFrame f row
 
+    box : Size
+    box = fitBox f row given
+
     by : (z t : Bool) → hasZeroSide box ≡ z → sameShape g box ≡ t
         → cond z (no 12 b) (cond t (written f row box (fitted f row box) b) (no 19 b)) .outcome ≡ refused n
-        → Refuses (holds f row) (fit box b) n
+        → Refuses (holds f row) (fit given b) n
     by true t p q y = same-number (zeroBox p) y
     by false false p q y = same-number (shapesDiffer p (other-told g box q)) y
     by false true p q y =
-        written-told f row box (fitted f row box) b (fit box b) n
+        written-told f row box (fitted f row box) b (fit given b) n
         (λ l. shortFit (record { no-zero-side = p; same-shape = same-told g box q }) (omega (arith, fitted-length f row box))) y
 
 pub told : (j : Journal) (c : Call) (n : ℕ) → journalStep j c .0 .outcome ≡ refused n → Refuses j c n
@@ -242,7 +245,7 @@ told (holds f row) (fit box b) n e = fit-told f row box b n e
 
 -- ---- and a number that applies is answered
 pub says : {j : Journal} {c : Call} {n : ℕ} → Refuses j c n → journalStep j c .0 .outcome ≡ refused n
-unfolding journalStep journalLoad journalChange changeRefusal journalBack backRefusal journalList journalFit written
+unfolding journalStep journalLoad journalChange changeRefusal journalBack backRefusal journalList journalFit answerInBox written
 says (notLoaded e) = rw e
 says (isEmpty {c = c} l) = ap (λ (a : Answer). a .outcome) (empty-seven c l)
 says (full {standing = row} h) = rw (le-leb 64 (length row) h)
@@ -254,9 +257,9 @@ says (outside {standing = row} {n = n} r d) = rw (lt-leb 64 (length row) r, outs
 says nothingStands = refl
 says (zeroBox z) = rw z
 says (short {f = f} {standing = row} {buffer = b} l) = rw (lt-ltb (length b) (6 * length (listing f row)) l)
-says (shapesDiffer {f = f} {standing = row} {box = box} z d) = rw (z, other-of (presentFrame f row) box d)
+says (shapesDiffer {f = f} {standing = row} {box = box} z d) = rw (z, other-of (presentFrame f row) (fitBox f row box) d)
 says (shortFit {f = f} {standing = row} {box = box} {buffer = b} g l) =
-    rw (g .no-zero-side, same-of (presentFrame f row) box (g .same-shape), fitted-length f row box, lt-ltb (length b) (6 * length (listing f row)) l)
+    rw (g .no-zero-side, same-of (presentFrame f row) (fitBox f row box) (g .same-shape), fitted-length f row (fitBox f row box), lt-ltb (length b) (6 * length (listing f row)) l)
 
 pub refused-exactly : RefusedExactly
 refused-exactly calls c n = (

@@ -19,7 +19,7 @@ use Rattle.placing.specs.Load.{Focus, noPoint}
 use Rattle.shape.specs.Shape.{shapeDifference, longestSide}
 use Rattle.sheet.specs.declared.Sheet.{Sheet}
 use Rattle.sheet.specs.Sheet.{freshSheet}
-use Rattle.journal.specs.Journal.{Change, cut, orient, Journal, empty, holds, frameBy, pointBy, staysListed, presentFrame, listing, primaryIndex, primaryOf, primaryAfter, fitted, Answer, no, ok, numbers, head}
+use Rattle.journal.specs.Journal.{Change, cut, orient, Journal, empty, holds, frameBy, pointBy, staysListed, presentFrame, listing, primaryIndex, primaryOf, primaryAfter, fitBox, fitted, Answer, no, ok, numbers, head}
 use Rattle.journal.specs.Calls.{Call, load, change, back, list, fit, lent, isLoad, runJournal, journalAfter}
 use Rattle.journal.specs.SheetCalls.{sheetStep, runSheet, sheetAfter}
 
@@ -139,7 +139,7 @@ pub record GoodCut (left top width height : ℕ) (f : Size) : Type 0 where
 abbrev pub OtherShape : Size → Size → Type 0
 OtherShape f box = longestSide f box < shapeDifference f box
 
--- a box that is neither 12 nor 19: 02's accepted box
+-- a box that is neither 12 nor 19: 02's accepted box. It is asked of the box that a fit works with
 pub record GoodBox (f box : Size) : Type 0 where
   pub no-zero-side : hasZeroSide box ≡ false
   pub same-shape : shapeDifference f box ≤ longestSide f box
@@ -166,16 +166,16 @@ pub data Refuses : Journal → Call → ℕ → Type 0 where
       → Refuses (holds f standing) (change (orient n)) 15
   -- "back, but no edit stands"
   nothingStands : {f : Focus} → Refuses (holds f []) back 11
-  -- "box for fitting has a zero side"
-  zeroBox : {f : Focus} {standing : List Change} {box : Size} {buffer : List ℕ} → hasZeroSide box ≡ true
+  -- "box for fitting has a zero side", and 02: "Both zero, or a worked side of 0"
+  zeroBox : {f : Focus} {standing : List Change} {box : Size} {buffer : List ℕ} → hasZeroSide (fitBox f standing box) ≡ true
       → Refuses (holds f standing) (fit box buffer) 12
-  -- 02: "shapes differ", of the present frame and the box
-  shapesDiffer : {f : Focus} {standing : List Change} {box : Size} {buffer : List ℕ} → hasZeroSide box ≡ false
-      → OtherShape (presentFrame f standing) box → Refuses (holds f standing) (fit box buffer) 19
+  -- 02: "shapes differ", of the present frame and "the worked box"
+  shapesDiffer : {f : Focus} {standing : List Change} {box : Size} {buffer : List ℕ} → hasZeroSide (fitBox f standing box) ≡ false
+      → OtherShape (presentFrame f standing) (fitBox f standing box) → Refuses (holds f standing) (fit box buffer) 19
   -- "buffer shorter than 6 × count"
   short : {f : Focus} {standing : List Change} {buffer : List ℕ} → length buffer < 6 * length (listing f standing)
       → Refuses (holds f standing) (list buffer) 13
-  shortFit : {f : Focus} {standing : List Change} {box : Size} {buffer : List ℕ} → GoodBox (presentFrame f standing) box
+  shortFit : {f : Focus} {standing : List Change} {box : Size} {buffer : List ℕ} → GoodBox (presentFrame f standing) (fitBox f standing box)
       → length buffer < 6 * length (listing f standing) → Refuses (holds f standing) (fit box buffer) 13
 
 -- a call is refused exactly when its refusals say
@@ -197,13 +197,14 @@ LoadOnAny =
     (calls : List Call) → runSheet s (load block raw picture model ∷ calls) ≡ ok [] [] ∷ runJournal (holds f []) calls
 
 -- ---- fit
--- what fit gives and writes, in an accepted box: each point of the listing scaled from the present frame
+-- what fit gives and writes in the box that it works with, if that is accepted: this is the frame, and each point of the listing is scaled
+-- to it from the present frame
 abbrev pub FitsExactly : Type 0
 FitsExactly =
     (calls : List Call) (f : Focus) (standing : List Change) → after calls ≡ holds f standing →
-    (box : Size) → GoodBox (presentFrame f standing) box →
+    (given box : Size) → box ≡ fitBox f standing given → GoodBox (presentFrame f standing) box →
     (buffer : List ℕ) → 6 * length (shown f standing) ≤ length buffer →
-    answer calls (fit box buffer) ≡
+    answer calls (fit given buffer) ≡
     ok (head f standing box (fitted f standing box))
     (numbers (fitted f standing box) ++ drop (6 * length (fitted f standing box)) buffer)
 
@@ -212,9 +213,9 @@ pub record FittedNear (f : Focus) (standing : List Change) (box : Size) (i : ℕ
   pub half-pixel : CenterNear (getD (listing f standing) i noPoint .center) (presentFrame f standing) box (getD (fitted f standing box) i noPoint .center)
   pub on-box : OnFrame box (getD (fitted f standing box) i noPoint .center)
 
--- "The half pixel bound covers accepted boxes only."
+-- "The half pixel bound covers accepted boxes only.", worked ones too
 abbrev pub FitIsNear : Type 0
 FitIsNear =
     (calls : List Call) (f : Focus) (standing : List Change) → after calls ≡ holds f standing →
-    (box : Size) → GoodBox (presentFrame f standing) box → box .width ≤ 4294967295 → box .height ≤ 4294967295 →
-    (i : ℕ) → i < length (listing f standing) → FittedNear f standing box i
+    (given box : Size) → box ≡ fitBox f standing given → GoodBox (presentFrame f standing) box →
+    given .width ≤ 4294967295 → given .height ≤ 4294967295 → (i : ℕ) → i < length (listing f standing) → FittedNear f standing box i

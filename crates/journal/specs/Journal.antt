@@ -1,7 +1,7 @@
 -- 01, "Book": what the calls alone say. The journal is fed each call with its arguments, except the sheet, and every answer is
 -- worked out from what it holds. Of the sheet it knows nothing: the two share what one load gives, when a point fits a frame, how
--- it is scaled, when a box has a frame's shape, and 01's numbers for modes, origins and in-focus. 02's orientations are here in the
--- journal's own words.
+-- it is scaled, how a blank side of a box is worked out, when a box has a frame's shape, and 01's numbers for modes, origins and in-focus.
+-- 02's orientations are here in the journal's own words.
 use Prim.Native.Nat.{ℕ, _+_, _-_, _*_}
 use mathlib.Core.Bool.{Bool, true, false, _&&_, _||_, cond}
 use mathlib.Core.List.{List, [], _∷_, _++_, map}
@@ -16,6 +16,7 @@ use Rattle.placing.specs.Fit.{hasZeroSide, pointFits}
 use Rattle.placing.specs.Scale.{scaledPoint}
 use Rattle.placing.specs.Load.{Focus, noPoint, originNumber}
 use Rattle.shape.specs.Shape.{sameShape}
+use Rattle.shape.specs.WorkedBox.{workedBox}
 
 -- an edit: "Cut left, top, width, height", or an orientation with its number
 pub data Change : Type 0 where
@@ -146,6 +147,10 @@ primaryOf load = getD (load .points) (load .primary) noPoint
 abbrev pub primaryAfter : Focus → List Change → Option FocusPoint
 primaryAfter load standing = carried (load .frame) (some (primaryOf load)) standing
 
+-- the box that a fit works with. 02: one zero side "is scale(that frame side, the given frame side, the given side)", of the present frame
+abbrev pub fitBox : Focus → List Change → Size → Size
+fitBox load standing box = workedBox (presentFrame load standing) box
+
 -- "each point scaled from the present frame to" the box
 abbrev pub fitted : Focus → List Change → Size → List FocusPoint
 fitted load standing box = map (λ p. scaledPoint p (presentFrame load standing) box) (listing load standing)
@@ -244,11 +249,15 @@ journalList empty buffer = no 7 buffer
 journalList (holds load standing) buffer =
     written load standing (presentFrame load standing) (listing load standing) buffer
 
--- "Fit answers and writes as list does, with the box as frame"; 12: "box for fitting has a zero side"; 02: "19, shapes differ, between 12
--- and 13", the frame being the present one
-unfoldable pub journalFit : Journal → Size → List ℕ → Answer
-journalFit empty box buffer = no 7 buffer
-journalFit (holds load standing) box buffer =
+-- "Fit answers and writes as list does, with the box as frame", in the box that it works with; 12: "box for fitting has a zero side"; 02:
+-- "19, shapes differ, between 12 and 13", the frame being the present one
+unfoldable pub answerInBox : Focus → List Change → Size → List ℕ → Answer
+answerInBox load standing box buffer =
     cond (hasZeroSide box) (no 12 buffer)
     (cond (sameShape (presentFrame load standing) box) (written load standing box (fitted load standing box) buffer)
     (no 19 buffer))
+
+-- 02: "A box with one zero side is now answered": 12 and 19 are of "the worked box", and so is the answer's frame
+unfoldable pub journalFit : Journal → Size → List ℕ → Answer
+journalFit empty box buffer = no 7 buffer
+journalFit (holds load standing) box buffer = answerInBox load standing (fitBox load standing box) buffer
