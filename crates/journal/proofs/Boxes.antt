@@ -31,7 +31,7 @@ module _ (k : ℕ) (g : Size) (pos : 0 < k) (w : k * g .width ≤ 4294967295) (h
   all-times (p ∷ ps) t = ap₂ (λ (q : FocusPoint) (qs : List FocusPoint). q ∷ qs) (scaled-times k g p pos w h (t .0)) (all-times ps (t .1))
 
 -- no side of the present frame is zero
-on-present : (calls : List Call) (f : Focus) (row : List Change) → after calls ≡ holds f row → 0 < presentFrame f row .width × 0 < presentFrame f row .height
+pub on-present : (calls : List Call) (f : Focus) (row : List Change) → after calls ≡ holds f row → 0 < presentFrame f row .width × 0 < presentFrame f row .height
 on-present calls f row e =
     let i = primary-is-listed calls f row e .in-listing in
     let o = fits-on-frame (presentFrame f row) _ (listed-fits-frame calls f row e (primaryIndex f row) i) in

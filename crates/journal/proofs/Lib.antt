@@ -9,6 +9,7 @@ pub mod Fitted
 pub mod Refusals
 pub mod Laws
 pub mod Boxes
+pub mod BlankSides
 pub mod Orientations
 pub mod CheckpointPlaces
 pub mod WorkspaceAgrees

@@ -3,6 +3,7 @@ pub mod Calls
 pub mod SheetCalls
 pub mod Claim
 pub mod Laws
+pub mod BlankLaws
 pub mod WorkspaceJournal
 pub mod WorkspaceCalls
 pub mod WorkspaceClaim

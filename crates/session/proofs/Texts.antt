@@ -29,6 +29,7 @@ use Rattle.placing.specs.declared.load.FocusAnswer.the-variants as load-answer
 use Rattle.placing.specs.Laid.{refusalNumber, loadMeans}
 use Rattle.placing.specs.Focus.{focusOf}
 use Rattle.shape.specs.Shape.{sameShape}
+use Rattle.shape.specs.WorkedBox.{workedBox}
 use Rattle.calls.specs.declared.Call.{Call as Parsed}
 use Rattle.calls.specs.Format.{callOf, callMeans}
 use Rattle.sheet.specs.declared.Sheet.{Sheet}
@@ -42,7 +43,7 @@ use Rattle.sheet.specs.declared.edits.EditAnswer.{EditAnswer}
 use Rattle.sheet.specs.declared.edits.EditAnswer.the-variants as edit
 use Rattle.sheet.specs.Answer.{editMeans}
 use Rattle.sheet.specs.Listing.{listMeans, headNumbers}
-use Rattle.sheet.specs.Lists.{listing, listCount, listIndex, isShort, headIn, listOutcome, listBuffer, fitOutcome, fitBuffer}
+use Rattle.sheet.specs.Lists.{listing, listCount, listIndex, isShort, headIn, listOutcome, listBuffer, outcomeInBox, fitOutcome, fitBuffer}
 use Rattle.sheet.proofs.Listed.{listed-length}
 use Rattle.sheet.proofs.Usable.{usable-told}
 use Rattle.journal.specs.Journal.{Answer}
@@ -146,13 +147,16 @@ pub most-list : (s : Sheet) (m : ℕ) (x : ListAnswer) → listMeans x ≡ listO
 unfolding listOutcome
 most-list s m x e = rw e (by-cond atMost39 (usable s) (most-listed s (presentFrame s) m) (λ h. tt))
 
+most-box : (s : Sheet) (box : Size) (m : ℕ) → atMost39 (outcomeInBox s box m)
+unfolding outcomeInBox
+most-box s box m =
+    by-cond atMost39 (usable s)
+    (λ h. by-cond atMost39 (hasZeroSide box) (λ z. tt) (λ z. by-cond atMost39 (sameShape (presentFrame s) box) (λ t. most-listed s box m h) (λ t. tt)))
+    (λ h. tt)
+
 pub most-fit : (s : Sheet) (box : Size) (m : ℕ) (x : ListAnswer) → listMeans x ≡ fitOutcome s box m → atMost39 (listMeans x)
 unfolding fitOutcome
-most-fit s box m x e =
-    rw e
-    (by-cond atMost39 (usable s)
-    (λ h. by-cond atMost39 (hasZeroSide box) (λ z. tt) (λ z. by-cond atMost39 (sameShape (presentFrame s) box) (λ t. most-listed s box m h) (λ t. tt)))
-    (λ h. tt))
+most-fit s box m x e = rw e (most-box s (workedBox (presentFrame s) box) m)
 
 pub most-of-listed : (x : ListAnswer) (l : ListHead) → x ≡ Listed l → atMost39 (listMeans x) → (l .count ≤ 39) × (l .index ≤ 39)
 unfolding headNumbers

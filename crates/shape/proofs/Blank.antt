@@ -9,7 +9,7 @@ use lib.Dec.{eqb}
 use native.Mathlib.Nat.{mul-comm, mul-zero, zero-mul, div-eq-of-lt, min-eq-left, min-eq-right, mul-le-mul, mul-le-mul-right, div-mul-le-self, lt-div-mul-add}
 use native.Mathlib.Omega.{arith}
 use borrow.Author.Tests.{eq-eqb, ne-eqb, eqb-true, eqb-false}
-use Rattle.laws.proofs.Tests.{by-bool, by-order}
+use Rattle.laws.proofs.Tests.{by-bool, by-order, or-first, or-second}
 use Rattle.reading.specs.declared.geometry.Size.{Size}
 use Rattle.placing.specs.Fit.{by, swapped, hasZeroSide, sameSize}
 use Rattle.placing.specs.Scale.{scaleOf}
@@ -17,7 +17,7 @@ use Rattle.placing.proofs.Fitting.{some-width, some-height, no-zero-side}
 use Rattle.placing.proofs.Scaling.{no-side, quotient, half, scale-capped}
 use Rattle.shape.specs.Shape.{longestSide, sameShape}
 use Rattle.shape.specs.WorkedBox.{workedSide, workedBox}
-use Rattle.shape.specs.WorkedBoxLaws.{TwoSidesStay, BlankHeight, BlankWidth, BothBlank, WorkedTwice, WorkedSwapped, WorkedTimes, NotCapped, MissingIsNearest, MissingIsZero, NotCappedHasShape, InReach, HasShapeInReach, ColumnInReach, ZeroHasShape, rowsAgree, BlankExamples}
+use Rattle.shape.specs.WorkedBoxLaws.{TwoSidesStay, BlankHeight, BlankWidth, BothBlank, WorkedTwice, WorkedSwapped, WorkedTimes, NotCapped, MissingIsNearest, MissingIsZero, ZeroUnderHalf, NotCappedHasShape, InReach, HasShapeInReach, ColumnInReach, ZeroHasShape, rowsAgree, BlankExamples}
 use Rattle.shape.proofs.Shapes.{told-by-products, both-swapped}
 use Rattle.shape.proofs.Times.{scale-times}
 
@@ -249,6 +249,30 @@ zero-told s e =
     (λ t. inl (eqb-true (s .width) 0 t))
     (λ t. inr (eqb-true (s .height) 0 (rw t at e)))
     (by-bool (eqb (s .width) 0))
+
+zero-is : (s : Size) → (s .width ≡ 0) ⊎ (s .height ≡ 0) → hasZeroSide s ≡ true
+unfolding hasZeroSide
+zero-is s (inl z) = or-first (eqb (s .width) 0) (eqb (s .height) 0) (eq-eqb (s .width) 0 z)
+zero-is s (inr z) = or-second (eqb (s .width) 0) (eqb (s .height) 0) (eq-eqb (s .height) 0 z)
+
+pub zero-under-half : ZeroUnderHalf
+zero-under-half f n wide tall some =
+    let m = missing-is-zero (f .height) (f .width) n wide in
+    let k = missing-is-zero (f .width) (f .height) n tall in
+    let b = by n (scaleOf (f .height) (f .width) n) in
+    let c = by (scaleOf (f .width) (f .height) n) n in (
+      (
+        λ e. m .0 (⊎-elim given (λ z. z) (zero-told b (rw (blank-height f n) at e))),
+        λ u. rw (blank-height f n) (zero-is b (inr (m .1 u))),
+      ),
+      (
+        λ e. k .0 (⊎-elim (λ z. z) given (zero-told c (rw (blank-width f n) at e))),
+        λ u. rw (blank-width f n) (zero-is c (inl (k .1 u))),
+      ),
+    )
+  where
+    given : {a : ℕ} → n ≡ 0 → a ≡ 0
+    given z = absurd (omega arith)
 
 -- with a zero side on either axis the missing one is not capped
 missing-uncapped : (that given side : ℕ) → (side ≡ 0) ⊎ (scaleOf that given side ≡ 0) → NotCapped that given side

@@ -51,9 +51,19 @@ NotCapped that given side = (that * side + given / 2) / given ≤ 4294967295
 abbrev pub MissingIsNearest : Type 0
 MissingIsNearest = (that given side : ℕ) → 0 < given → NotCapped that given side → HalfPixel that given side (scaleOf that given side)
 
--- "a worked side of 0": just where it is less than half a pixel
+-- "a worked side of 0": it is less than half a pixel
+abbrev pub UnderHalf : ℕ → ℕ → ℕ → Type 0
+UnderHalf that given side = 2 * (that * side) < given
+
 abbrev pub MissingIsZero : Type 0
-MissingIsZero = (that given side : ℕ) → 0 < given → (scaleOf that given side ≡ 0) ↔ (2 * (that * side) < given)
+MissingIsZero = (that given side : ℕ) → 0 < given → (scaleOf that given side ≡ 0) ↔ UnderHalf that given side
+
+-- exactly then the worked box has a zero side
+abbrev pub ZeroUnderHalf : Type 0
+ZeroUnderHalf =
+    (frame : Size) (side : ℕ) → 0 < frame .width → 0 < frame .height → 0 < side
+    → ((hasZeroSide (workedBox frame (by side 0)) ≡ true) ↔ UnderHalf (frame .height) (frame .width) side)
+    × ((hasZeroSide (workedBox frame (by 0 side)) ≡ true) ↔ UnderHalf (frame .width) (frame .height) side)
 
 -- ---- "the worked box is then put to the shape test like any other"
 -- it has the frame's shape where it was not capped

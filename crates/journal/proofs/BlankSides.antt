@@ -1,0 +1,154 @@
+-- Fits with a blank side after any list of calls. The idea: 12 and 19 are told by the worked box, by the cases of the two tests; what the
+-- tests say of a worked box, in numbers, are the laws of `shape`. Assumes nothing.
+use Prim.Native.Nat.{ℕ, _+_, _*_, _≤_, _<_}
+use mathlib.Core.Bool.{Bool, true, false, cond, false≢true}
+use mathlib.Core.List.{List}
+use mathlib.Core.Logic.{_↔_, ⊎-elim}
+use mathlib.Core.Path.{_≡_, refl, sym, ap, _∙_}
+use lib.Dec.{ltb}
+use lib.ListN.{length}
+use native.Mathlib.Omega.{arith}
+use Rattle.laws.proofs.Tests.{by-bool, by-order, either}
+use Rattle.reading.specs.Outcome.{refused, numberOf}
+use Rattle.reading.specs.declared.geometry.Size.{Size}
+use Rattle.placing.specs.Fit.{by, hasZeroSide}
+use Rattle.placing.specs.Load.{Focus}
+use Rattle.placing.specs.declared.focus.FocusPoint.{FocusPoint}
+use Rattle.shape.specs.Shape.{sameShape}
+use Rattle.shape.specs.ShapeLaws.{times}
+use Rattle.shape.specs.WorkedBoxLaws.{UnderHalf, InReach, Sides32}
+use Rattle.shape.proofs.Blank.{two-sides-stay, worked-twice, both-blank, worked-times, zero-under-half, has-shape-in-reach, column-in-reach, zero-has-shape}
+use Rattle.sheet.specs.Sheet.{presentFrame as sheetFrame}
+use Rattle.sheet.specs.Lists.{outcomeInBox, bufferInBox, fitOutcome, fitBuffer}
+use Rattle.journal.specs.Journal.{Change, holds, presentFrame, fitBox, fitted, Answer, no, written, answerInBox, journalFit}
+use Rattle.journal.specs.Calls.{Call, fit, journalStep}
+use Rattle.journal.specs.Claim.{after, answer}
+use Rattle.journal.specs.BlankLaws.{TwoSidesOnAny, TwoSidesAsGiven, FitsAsWorked, BothBlankRefused, BlankTimes, BlankRefused, BlankHeightRefused, BlankWidthRefused, ColumnsFit}
+use Rattle.journal.proofs.Answers.{answered}
+use Rattle.journal.proofs.Boxes.{on-present}
+
+pub two-sides-on-any : TwoSidesOnAny
+unfolding fitOutcome fitBuffer
+two-sides-on-any s box e =
+    let w = two-sides-stay (sheetFrame s) box e in
+    (λ m. ap (λ (b : Size). outcomeInBox s b m) w, λ buffer. ap (λ (b : Size). bufferInBox s b buffer) w)
+
+-- a fit, from what the journal holds
+fit-is : (calls : List Call) (f : Focus) (row : List Change) → after calls ≡ holds f row → (box : Size) (b : List ℕ)
+    → answer calls (fit box b) ≡ answerInBox f row (fitBox f row box) b
+unfolding journalStep journalFit
+fit-is calls f row e box b = answered calls (holds f row) (fit box b) e
+
+pub two-sides-as-given : TwoSidesAsGiven
+two-sides-as-given calls f row e box z b =
+    fit-is calls f row e box b ∙ ap (λ (g : Size). answerInBox f row g b) (two-sides-stay (presentFrame f row) box z)
+
+pub fits-as-worked : FitsAsWorked
+fits-as-worked calls f row e box b =
+    fit-is calls f row e box b
+    ∙ ap (λ (g : Size). answerInBox f row g b) (sym (worked-twice (presentFrame f row) box))
+    ∙ sym (fit-is calls f row e (fitBox f row box) b)
+
+pub both-blank-refused : BothBlankRefused
+unfolding answerInBox hasZeroSide
+both-blank-refused calls f row e b = fit-is calls f row e (by 0 0) b ∙ rw (both-blank (presentFrame f row))
+
+pub blank-times : BlankTimes
+blank-times calls f row e k w h b =
+    let g = presentFrame f row in
+    let o = on-present calls f row e in
+    let t = worked-times k g (o .0) (o .1) w h in
+    (alike (by (k * g .width) 0) (t .0), alike (by 0 (k * g .height)) (t .1))
+  where
+    alike : (box : Size) → fitBox f row box ≡ times k (presentFrame f row)
+        → answer calls (fit box b) ≡ answer calls (fit (times k (presentFrame f row)) b)
+    alike box t = fits-as-worked calls f row e box b ∙ ap (λ (g : Size). answer calls (fit g b)) t
+
+-- ---- 12 and 19, by the box that a fit works with
+neither-number : (f : Focus) (row : List Change) (g : Size) (ps : List FocusPoint) (b : List ℕ)
+    → (numberOf (written f row g ps b .outcome) ≡ 12 → ⊥) × (numberOf (written f row g ps b .outcome) ≡ 19 → ⊥)
+unfolding written
+neither-number f row g ps b =
+    either (λ (a : Answer). (numberOf (a .outcome) ≡ 12 → ⊥) × (numberOf (a .outcome) ≡ 19 → ⊥))
+    (ltb (length b) (6 * length ps)) _ _ (λ e. omega arith, λ e. omega arith) (λ e. omega arith, λ e. omega arith)
+
+module _ (f : Focus) (row : List Change) (box : Size) (b : List ℕ) where
+  -- the tests of a fit, and what it ends with
+  abbrev Judged : Bool → Bool → ℕ
+  Judged z t = numberOf (cond z (no 12 b) (cond t (written f row box (fitted f row box) b) (no 19 b)) .outcome)
+
+  twelve-told : (z t : Bool) → Judged z t ≡ 12 → z ≡ true
+  twelve-told true t e = refl
+  twelve-told false true e = absurd (neither-number f row box (fitted f row box) b .0 e)
+  twelve-told false false e = absurd (omega arith)
+
+  nineteen-told : (z t : Bool) → Judged z t ≡ 19 → t ≡ false
+  nineteen-told true t e = absurd (omega arith)
+  nineteen-told false true e = absurd (neither-number f row box (fitted f row box) b .1 e)
+  nineteen-told false false e = refl
+
+  is-twelve : (answerInBox f row box b .outcome ≡ refused 12) ↔ (hasZeroSide box ≡ true)
+  unfolding answerInBox
+  is-twelve = (λ e. twelve-told (hasZeroSide box) (sameShape (presentFrame f row) box) (ap numberOf e), λ z. rw z)
+
+  -- where a zero side has the frame's shape, so that 12 does not come first
+  is-nineteen : (hasZeroSide box ≡ true → sameShape (presentFrame f row) box ≡ true)
+      → (answerInBox f row box b .outcome ≡ refused 19) ↔ (sameShape (presentFrame f row) box ≡ false)
+  unfolding answerInBox
+  is-nineteen k = (
+    λ e. nineteen-told (hasZeroSide box) (sameShape (presentFrame f row) box) (ap numberOf e),
+    λ t. ⊎-elim (λ z. absurd (false≢true (sym t ∙ k z))) (λ (z : hasZeroSide box ≡ false). rw (z, t)) (by-bool (hasZeroSide box)),
+  )
+
+-- what is not so is otherwise
+not-so : (t : Bool) (a b : ℕ) → (t ≡ true) ↔ (a ≤ b) → (t ≡ false) ↔ (b < a)
+not-so true a b k = (λ e. absurd (false≢true (sym e)), λ l. absurd (omega (arith, k .0 refl)))
+not-so false a b k = (λ e. ⊎-elim (λ l. l) (λ l. absurd (false≢true (k .1 l))) (by-order b a), λ l. refl)
+
+-- a fit of a box whose worked one the tests judge by these sides
+refused-by : (calls : List Call) (f : Focus) (row : List Change) → after calls ≡ holds f row → (box : Size) (b : List ℕ) (that given side : ℕ)
+    → (hasZeroSide (fitBox f row box) ≡ true) ↔ UnderHalf that given side
+    → (sameShape (presentFrame f row) (fitBox f row box) ≡ true) ↔ InReach that given side
+    → BlankRefused that given side (answer calls (fit box b) .outcome)
+refused-by calls f row e box b that given side u r =
+    let o = on-present calls f row e in
+    let t = is-twelve f row (fitBox f row box) b in
+    let n = is-nineteen f row (fitBox f row box) b (zero-has-shape (presentFrame f row) box (o .0) (o .1)) in
+    let s = not-so (sameShape (presentFrame f row) (fitBox f row box)) (that * side) (4294967295 * (given + 1)) r in
+    rw (fit-is calls f row e box b) (record {
+      zero-side = (λ q. u .0 (t .0 q), λ l. t .1 (u .1 l));
+      other-shape = (λ q. s .0 (n .0 q), λ l. n .1 (s .1 l));
+    })
+
+module _ (calls : List Call) (f : Focus) (row : List Change) (e : after calls ≡ holds f row)
+    (a : presentFrame f row .width ≤ 4294967295) (d : presentFrame f row .height ≤ 4294967295) where
+  sides : Sides32 (presentFrame f row)
+  sides = let o = on-present calls f row e in record { wide = o .0; high = o .1; across = a; down = d }
+
+  height-refused : (width : ℕ) → 0 < width → width ≤ 4294967295 → (b : List ℕ)
+      → BlankRefused (presentFrame f row .height) (presentFrame f row .width) width (answer calls (fit (by width 0) b) .outcome)
+  height-refused n some l b =
+      let g = presentFrame f row in
+      refused-by calls f row e (by n 0) b (g .height) (g .width) n
+      (zero-under-half g n (sides .wide) (sides .high) some .0) (has-shape-in-reach g n sides l .0)
+
+  width-refused : (height : ℕ) → 0 < height → height ≤ 4294967295 → (b : List ℕ)
+      → BlankRefused (presentFrame f row .width) (presentFrame f row .height) height (answer calls (fit (by 0 height) b) .outcome)
+  width-refused n some l b =
+      let g = presentFrame f row in
+      refused-by calls f row e (by 0 n) b (g .width) (g .height) n
+      (zero-under-half g n (sides .wide) (sides .high) some .1) (has-shape-in-reach g n sides l .1)
+
+pub blank-height-refused : BlankHeightRefused
+blank-height-refused = height-refused
+
+pub blank-width-refused : BlankWidthRefused
+blank-width-refused = width-refused
+
+pub columns-fit : ColumnsFit
+columns-fit calls f row e a d n some l c b q =
+    let g = presentFrame f row in
+    let s = sides calls f row e a d in
+    let r = column-in-reach (g .height) (g .width) n (s .wide) in
+    let i : InReach (g .height) (g .width) n = ⊎-elim (λ w. r .0 d w) (λ p. r .1 p) c in
+    omega (arith, i, height-refused calls f row e a d n some l b .other-shape .0 q)
