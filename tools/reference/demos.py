@@ -272,7 +272,7 @@ def refusals():
     yield script.LIST, "frame 4016 6016 points 1 primary 0 mode 1 origin 2\n1 2007 3008 164 164 0"
     yield script.load(plain), "ok"
     yield script.BACK, "no 11"  # the load has replaced the edits
-    yield script.fit(0, 0), "no 12"  # and not 19
+    yield script.fit(0, 0), "no 12"  # no sides
     # A cut of 6016 by 164, which point 1 just fits: a column of 18 works out as floor((164 * 18 + 3008) / 6016) = floor(0.99) = 0.
     yield script.cut(0, 1925, 6016, 164), "ok"
     yield script.fit(18, 0), "no 12"

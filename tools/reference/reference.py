@@ -847,7 +847,7 @@ def shape_checks():
         ("the frame of a cut", fitted(cut, (6016, 4016), (300, 200), (40, 30)), [no(19), no(19), [40, 30, 1, 11, 11, 16, 16, 0]]),
         ("a square on its side", fitted(square, (400, 400), (40, 41), (40, 42)),
          [[400, 400, 1, 293, 108, 164, 164, 0], [40, 41, 1, 29, 11, 16, 17, 0], no(19)]),
-        ("12 before 19 and 13", fitted(whole, (0, 0), places=0), [no(12)]),
+        ("12 before 13", fitted(whole, (0, 0), places=0), [no(12)]),
         ("19 before 13", fitted(whole, (6016, 6016), (376, 253), places=5), [no(19)] * 2),
         ("13 after it", fitted(whole, (6016, 4016), (376, 252), places=5), [no(13)] * 2),
         ("7 before them", fitted(Book(), (0, 0), (1, 9), (300, 200), places=0), [no(7)] * 3),
@@ -906,7 +906,7 @@ def blank_checks():
         # most * most / (most - 1) = most + 1.00, capped: off by most * most - (most - 1) * most = most.
         ("the largest sides", worked((most, most - 1), (0, most - 1), (0, most), (most, 0)),
          [(most, most - 1), (most, most), (most, most - 1)] * 2),
-        ("12 before 13", fitted(in_frame(7, 1), (3, 0), (0, 0), places=0), [no(12)] * 2),
+        ("12 for a worked side before 13", fitted(in_frame(7, 1), (3, 0), places=0), [no(12)]),
         ("19 before 13", fitted(in_frame(1, most), (3, 0), places=5), [no(19)]),
         ("13 after them", fitted(whole, (376, 0), (0, 251), places=5) + fitted(in_frame(1, most), (2, 0), places=5), [no(13)] * 3),
         ("7 before them all", fitted(Book(), (0, 0), (5, 0), (0, 5), (most, 0), places=0), [no(7)] * 4),

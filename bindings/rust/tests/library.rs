@@ -242,8 +242,8 @@ fn load_line(block: &[u8]) -> String {
 
 /// The line that cuts.
 fn cut_line(left: u32, top: u32, width: u32, height: u32) -> String {
-    let numbers = [left, top, width, height].map(u32::to_be_bytes);
-    call_line(&[&[2][..], numbers.as_flattened()].concat())
+    let numbers = [left, top, width, height].map(u32::to_be_bytes).concat();
+    call_line(&[&[2][..], &numbers].concat())
 }
 
 /// The line that fits to a box.
