@@ -48,7 +48,7 @@ FITS = (
      ((1, 0, 1, 1), (2, 0, 1, 1), (3, 0, 2, 0), (4, 0, 3, 1), (MOST, 0, 2863311530, 0), (0, 1, 2, 1), (0, 2, 3, 0), (0, 3, 5, 1),
       (0, 2863311530, MOST, 0), (0, 2863311531, MOST, 3), (0, MOST, MOST, MOST))),
     (photographs.CORNER, (0, 1, 3, 1), ((1, 1, 2), (3, 2, 3), (2, 2, 4), (7, 1, 4), (7, 5, 8), (8, 5, 7)),
-     # 0.33, which is 0, and 0.67; three times a row, up to the largest; capped and off by 3, by the most but 3, by the most, by more.
+     # 0.33, which is 0, and 0.67; three times a row, up to the largest; capped, off by 3, the most but 3, the most, and more.
      ((1, 0, 0, None), (2, 0, 1, 1), (4, 0, 1, 1), (5, 0, 2, 1), (MOST, 0, 1431655765, 0), (0, 1, 3, 0), (0, 1431655765, MOST, 0),
       (0, 1431655766, MOST, 3), (0, 2863311529, MOST, MOST - 3), (0, 2863311530, MOST, MOST), (0, 2863311531, MOST, MOST + 3))),
     (photographs.CORNER, (0, 0, 1, 2), (
@@ -59,7 +59,7 @@ FITS = (
     # 4294967295 by 2, and by 1.
     (photographs.WIDE, None, (
         (1, 1, MOST - 2), (MOST, 1, MOST), (MOST, 3, MOST), (MOST - 1, 3, MOST + 2), (MOST, MOST, MOST * MOST - 2 * MOST)),
-     # Less than half a pixel, and more; 2147483647.5; half more than the largest, which is accepted, and twice as much, which is not.
+     # Less than half a pixel, and more; 2147483647.5; capped from half as much again, and, refused, from twice as much.
      ((1, 0, 0, None), (1073741823, 0, 0, None), (1073741824, 0, 1, 2147483647), (MOST, 0, 2, 0), (0, 1, 2147483648, 1),
       (0, 2, MOST, 0), (0, 3, MOST, MOST), (0, 4, MOST, 2 * MOST), (0, MOST, MOST, MOST * MOST - 2 * MOST))),
     (photographs.WIDE, (0, 1, MOST, 1), ((1, 1, MOST - 1), (MOST, 2, MOST), (MOST - 1, 2, MOST + 1), (2, MOST, MOST * MOST - 2)),
@@ -73,7 +73,7 @@ FITS = (
     (photographs.LARGEST, None, (
         (MOST - 1, MOST - 1, MOST - 1), (MOST, MOST, MOST), (1, 2, MOST + 1), (2, 1, MOST - 2), (MOST, MOST - 3, 2 * MOST),
         (2147483649, 2147483649, 2147483649)),
-     # A column of g is g - g / 4294967295 high, and a row of g is g + g / 4294967294 wide: to half a pixel from g, just not, and capped.
+     # A column of g is g - g / 4294967295 high, a row of g is g + g / 4294967294 wide: less than half a pixel from g, and more.
      ((1, 0, 1, 1), (2147483647, 0, 2147483647, 2147483647), (2147483648, 0, 2147483647, 2147483647), (MOST, 0, MOST - 1, 0),
       (0, 1, 1, 1), (0, 2147483646, 2147483646, 2147483646), (0, 2147483647, 2147483648, 2147483647), (0, MOST - 1, MOST, 0),
       (0, MOST, MOST, MOST))),

@@ -172,7 +172,8 @@ def shapes():
             yield fit(*box[::-1], 6)
         width, height = frame = some_cut[2:] if some_cut else stored.answer(given).frame
         yield from (fit(*frame, 6), fit(*frame, 5), fit(0, 0, 6), fit(*frame[::-1], 5), show(6))
-        yield from (fit(width, 0, 6), fit(0, height, 6), fit(height, 0, 6), fit(0, width, 5), BACK, fit(*frame, 7), fit(width, 0, 7))
+        yield from (fit(width, 0, 6), fit(0, height, 6), fit(height, 0, 6), fit(0, width, 5))
+        yield from (BACK, fit(*frame, 7), fit(width, 0, 7))
 
 
 # Eight names: some that others begin with, two that a zero byte makes unlike, two that agree in 15 of 16 bytes.

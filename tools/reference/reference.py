@@ -875,10 +875,12 @@ def blank_checks():
     whole, on_its_side, cut = book_of(), book_of(TURN_CALL), book_of(SMALL_CUT)
     return [
         # 4016 * 376 / 6016 = 251, 4016 * 300 / 6016 = 200.27.
-        ("a blank height", fitted(whole, (376, 0), (300, 0)), [[376, 251, 1, 188, 125, 10, 10, 0], [300, 200, 1, 150, 100, 8, 8, 0]]),
+        ("a blank height", fitted(whole, (376, 0), (300, 0)),
+         [[376, 251, 1, 188, 125, 10, 10, 0], [300, 200, 1, 150, 100, 8, 8, 0]]),
         # 6016 * 251 / 4016 = 376, 6016 * 200 / 4016 = 299.60.
-        ("a blank width", fitted(whole, (0, 251), (0, 200)), [[376, 251, 1, 188, 125, 10, 10, 0], [300, 200, 1, 150, 100, 8, 8, 0]]),
-        # In 4016 by 6016: 6016 * 300 / 4016 = 449.40, 4016 * 300 / 6016 = 200.27. The load's frame gives 300 by 200, and 449 by 300.
+        ("a blank width", fitted(whole, (0, 251), (0, 200)),
+         [[376, 251, 1, 188, 125, 10, 10, 0], [300, 200, 1, 150, 100, 8, 8, 0]]),
+        # In 4016 by 6016: 6016 * 300 / 4016 = 449.40, 4016 * 300 / 6016 = 200.27. The load's frame gives 300 by 200, 449 by 300.
         ("on its side", fitted(on_its_side, (300, 0), (0, 300)),
          [[300, 449, 1, 150, 225, 12, 12, 0], [200, 300, 1, 100, 150, 8, 8, 0]]),
         # In 400 by 300: 30 and 40. The load's frame gives 27 (26.70) and 45 (44.94).
@@ -894,7 +896,8 @@ def blank_checks():
         ("the same where a half is met", worked((8, 1), (3, 0), (4, 0)), [no(12), (4, 1)] * 2),
         # 1 * 2147483647 / most is less than a half, and 2147483648 / most is more.
         ("the same in the flattest frame",
-         worked((most, 1), (1, 0), (2147483647, 0), (2147483648, 0), (most, 0)), [no(12), no(12), (2147483648, 1), (most, 1)] * 2),
+         worked((most, 1), (1, 0), (2147483647, 0), (2147483648, 0), (most, 0)),
+         [no(12), no(12), (2147483648, 1), (most, 1)] * 2),
         ("both blank", worked((7, 5), (0, 0)) + worked((most, 1), (0, 0)) + fitted(cut, (0, 0)), [no(12)] * 5),
         # most * g / 1 is most, twice and three times that; the box is off by (g - 1) * most, and may be off by most.
         ("capped and accepted, capped and refused", worked((1, most), (1, 0), (2, 0), (3, 0), (most, 0)),
@@ -908,7 +911,8 @@ def blank_checks():
          [(most, most - 1), (most, most), (most, most - 1)] * 2),
         ("12 for a worked side before 13", fitted(in_frame(7, 1), (3, 0), places=0), [no(12)]),
         ("19 before 13", fitted(in_frame(1, most), (3, 0), places=5), [no(19)]),
-        ("13 after them", fitted(whole, (376, 0), (0, 251), places=5) + fitted(in_frame(1, most), (2, 0), places=5), [no(13)] * 3),
+        ("13 after them", fitted(whole, (376, 0), (0, 251), places=5) + fitted(in_frame(1, most), (2, 0), places=5),
+         [no(13)] * 3),
         ("7 before them all", fitted(Book(), (0, 0), (5, 0), (0, 5), (most, 0), places=0), [no(7)] * 4),
     ]
 

@@ -30,8 +30,8 @@ EQUAL = {
     "a cut of the whole frame": calls.cut(0, 0, *reference.WHOLE_FRAME),
 }
 
-# For a frame of 6016 by 4016: a quarter of each side; off by 1600 where 6016 is the most; and off by 6400, which is refused. Then with
-# a blank side: worked out as the first, as 1200 by 801, and, refused, as 4294967295 by 4294967295; and without sides.
+# For a frame of 6016 by 4016: a quarter of each side; off by 1600 where 6016 is the most; and off by 6400, which is refused.
+# Then with a blank side: worked out as the first, as 1200 by 801, and, refused, as 4294967295 by 4294967295; and without sides.
 BOXES = ((1504, 1004), (300, 200), (1200, 800), (0, 1004), (1200, 0), (0, reference.MAX_U32), (0, 0))
 # The kinds, and those that write into a buffer.
 KINDS, LISTS = range(1, 10), (5, 6, 9)

@@ -62,7 +62,7 @@ def an_orientation(chance):
 
 
 def a_box(chance, book):
-    """A box for fitting: of the present frame's shape or nearly, where that just ends, or of another; or with a blank side, or two."""
+    """A box for fitting: of the present frame's shape or nearly, where that just ends, or of another; or with blank sides."""
     any_box = [chance.choice(SIDES + [chance.randrange(1, 9000)]) for _ in range(2)]
     if book.held is None:
         return chance.choice([any_box, [0, any_box[1]], [any_box[0], 0], [0, 0]])
@@ -93,8 +93,8 @@ def a_box(chance, book):
 
 
 def box_with_a_blank(chance, frame):
-    """A box with a blank side: a column or a row of a page, of any side, or where the worked side just is no longer 0, is just over
-    the largest number, or the worked box is just refused; or between these last two."""
+    """A box with a blank side: a column or a row of a page, of any side, or where the worked side is just 0 or just not, is just
+    over the largest number or just not, or the worked box is just refused or just not; or between these last two."""
     is_thin = max(frame) > 2 * min(frame)  # a worked side can be 0
     way = chance.choices(["page", "any", "nothing", "capped", "refused", "between"], [10, 4, 14 * is_thin, 4, 8, 3])[0]
     axis = chance.randrange(2)  # that of the given side
