@@ -8,8 +8,9 @@ contents, and malformed lines. The same seed gives the same lines. Most calls
 meet a loaded sheet; at the front there is a stretch that leaves it empty. The
 last feed is missing now and then. The loads are those that are stored for
 placing_test, or those of a FILE of load lines (as tools/oracle's `loads` prints
-them), and the blocks of readers.py; as they are and changed: other sizes,
-models, named points and positions, damaged entries, entries in another order.
+them), the extreme ones of photographs.py and the blocks of readers.py; as they
+are and changed: other sizes, models, named points and positions, damaged entries,
+entries in another order.
 Contents lines have these blocks too; more than half have a directory by chance,
 of the four tags and others in any order, repeated, damaged and of types that
 are passed over. --tally counts the answers of reference.py.
