@@ -57,18 +57,39 @@ static const char answers[] =
 static const char refused[] = "0900F7\n" LOAD "0900F7\n" "0909EE\n" "09FFF8\n" "03FD\n" "04FC\n" "09F7\n" "090606EB\n";
 static const char refusals[] = "no 7\nok\nno 15\nno 15\nno 15\nno 14\nno 14\nno 14\nno 14\n";
 
-/* Fits in 6016 by 4016: a box may be off by 6016, and one of 376 by 252 is, but not one of 376 by 253; with a zero side it is 12 before
- * it is 19. In 4016 by 6016 it is to be on its side. */
+/* Fits in 6016 by 4016: a box may be off by 6016, and one of 376 by 252 is, but not one of 376 by 253. In 4016 by 6016 it is to be on
+ * its side. */
 #define FIT_376_252 "0700000178000000FC84\n"
 #define FIT_376_253 "0700000178000000FD83\n"
 #define FIT_252_376 "07000000FC0000017884\n"
-#define FIT_0_253 "0700000000000000FDFC\n"
-static const char fits[] = FIT_376_252 LOAD FIT_376_252 FIT_376_253 FIT_0_253 TURN FIT_376_252 FIT_252_376;
+static const char fits[] = FIT_376_252 LOAD FIT_376_252 FIT_376_253 TURN FIT_376_252 FIT_252_376;
 static const char fitted[] =
     "no 7\nok\n"
     "frame 376 252 points 2 primary 0 mode 1 origin 2\n1 188 126 10 10 0\n16 218 126 10 10 0\n"
-    "no 19\nno 12\nok\nno 19\n"
+    "no 19\nok\nno 19\n"
     "frame 252 376 points 2 primary 0 mode 1 origin 2\n1 126 188 10 10 0\n16 126 218 10 10 0\n";
+
+/* Boxes with a blank side in 6016 by 4016: 4016 * 376 / 6016 = 251 and 6016 * 253 / 4016 = 378.996, nearest 379; a height of 4294967295
+ * works out as a width that is too long and is cut to 4294967295, and that box is a square; without sides it is 12. In 4016 by 6016:
+ * 6016 * 376 / 4016 = 563.25, nearest 563. Behind a cut to 6016 by 164 a width of 18 works out as 0, nearest to 164 * 18 / 6016 = 0.49,
+ * and one of 19 as 1; nothing is left of the areas there. */
+#define FIT_376_0 "07000001780000000080\n"
+#define FIT_0_253 "0700000000000000FDFC\n"
+#define FIT_0_LONGEST "0700000000FFFFFFFFFD\n"
+#define FIT_0_0 "070000000000000000F9\n"
+#define FIT_18_0 "070000001200000000E7\n"
+#define FIT_19_0 "070000001300000000E6\n"
+#define BACK "05FB\n"
+#define FLAT_CUT "02000000000000078500001780000000A437\n"
+static const char blanks[] = FIT_376_0 LOAD FIT_376_0 FIT_0_253 FIT_0_LONGEST FIT_0_0 TURN FIT_376_0 BACK FLAT_CUT FIT_18_0 FIT_19_0;
+static const char worked[] =
+    "no 7\nok\n"
+    "frame 376 251 points 2 primary 0 mode 1 origin 2\n1 188 125 10 10 0\n16 218 125 10 10 0\n"
+    "frame 379 253 points 2 primary 0 mode 1 origin 2\n1 190 126 10 10 0\n16 220 126 10 10 0\n"
+    "no 19\nno 12\nok\n"
+    "frame 376 563 points 2 primary 0 mode 1 origin 2\n1 188 282 15 15 0\n16 188 326 15 15 0\n"
+    "ok\nok\nno 12\n"
+    "frame 19 1 points 2 primary 0 mode 1 origin 2\n1 10 1 0 0 0\n16 11 1 0 0 0\n";
 
 static uint32_t out[1000];
 
@@ -140,7 +161,7 @@ static void photograph(void)
 
 static void script(void)
 {
-    uint8_t text[sizeof answers + 9], more[sizeof fitted];
+    uint8_t text[sizeof answers + 9], more[sizeof fitted], most[sizeof worked];
     const size_t len = sizeof answers - 1;
 
     memset(text, 0xAB, sizeof text);
@@ -159,6 +180,8 @@ static void script(void)
     EXPECT(memcmp(text, refusals, sizeof refusals - 1) == 0);
     EXPECT(focuspoints_script(BYTES(fits), more, sizeof more) == sizeof fitted - 1);
     EXPECT(memcmp(more, fitted, sizeof fitted - 1) == 0);
+    EXPECT(focuspoints_script(BYTES(blanks), most, sizeof most) == sizeof worked - 1);
+    EXPECT(memcmp(most, worked, sizeof worked - 1) == 0);
 }
 
 static void contents(void)

@@ -7,10 +7,11 @@ Writes a list of calls for the program workspace_test, stdin of that crate, and
 what it must print, its stdout: the answers and buffers of the book of
 reference.py, which is fed the calls alone. The front of the list has every
 answer among its own, every orientation, boxes whose shape is just the frame's and
-just not, and names that are easily taken for each other, each with what is kept
-under it; behind it come COUNT calls by chance. The loads are those that are
-stored for placing_test, and those of orientations.py and boxes.py. What is stored
-is of seed 1 and count 900, which are taken if none are given.
+just not, boxes with a side left blank, and names that are easily taken for each
+other, each with what is kept under it; behind it come COUNT calls by chance. The
+loads are those that are stored for placing_test, and those of orientations.py,
+boxes.py and photographs.py. What is stored is of seed 1 and count 900, which are
+taken if none are given.
 """
 
 import collections
@@ -26,6 +27,7 @@ sys.dont_write_bytecode = True
 import boxes
 import lines
 import orientations
+import photographs
 import reference
 import stored
 
@@ -125,8 +127,7 @@ def any_load():
     refused = [given for name, some in loads().items() if name != "ok" for given, _ in some]
     accepted = [given for given, _ in loads()["ok"]]
     many = [given for given, placed in loads()["ok"] if len(placed.points) > 4]
-    extreme = [orientations.CORNER, boxes.WIDE, boxes.LARGEST]
-    return refused + accepted + many * (len(refused) // len(many) + 1) + extreme * (len(refused) // 10)
+    return refused + accepted + many * (len(refused) // len(many) + 1) + photographs.EXTREME * (len(refused) // 20)
 
 
 # -------------------------------------------------------------- lists of calls
@@ -141,9 +142,9 @@ def every_answer():
     for given in orientations.PHOTOGRAPHS:
         yield load(*given)
         yield from (BACK, cut(0, 0, 0, 1), cut(0, 0, 4294967295, 1), cut(0, 0, 1, 1), orient(0), orient(9), orient(255))
-        yield from (fit(0, 1, 0), fit(1, 0, 9), fit(1, 9, 0), show(0), fit(1, 1, 0))  # 12, 19 before 13
+        yield from (fit(0, 0, 0), fit(1, 9, 0), show(0), fit(1, 1, 0), fit(0, 1, 0), fit(1, 0, 5))  # 12, 19 before 13
         for number in orientations.EIGHT:
-            yield from (orient(number), show(30), fit(300, 200, 30), fit(200, 300, 30), BACK)
+            yield from (orient(number), show(30), fit(300, 200, 30), fit(200, 300, 30), fit(300, 0, 30), fit(0, 300, 30), BACK)
         yield BACK
     # All points of the table behind as many edits as may stand: 8 before 9 and 15, and 15 after a back.
     yield load(*max(loads()["ok"], key=lambda load: len(load[1].points))[0])
@@ -158,18 +159,21 @@ def every_answer():
 
 def shapes():
     """Fits to the boxes of boxes.py: into a buffer just long enough, one too short, and with the photograph and the boxes on their
-    side; there the frame as it was has another shape."""
-    for given, some_cut, some in boxes.FITS:
+    side; there the frame as it was has another shape, and its sides alone work out as other boxes."""
+    for given, some_cut, *some in boxes.FITS:
+        asked = [box for box, _, _ in boxes.each_box(*some)]
         yield load(*given)
         if some_cut:
             yield cut(*some_cut)
-        for width, height, _ in some:
-            yield from (fit(width, height, 6), fit(width, height, 5))
+        for box in asked:
+            yield from (fit(*box, 6), fit(*box, 5))
         yield orient(6)
-        for width, height, _ in some:
-            yield fit(height, width, 6)
-        frame = some_cut[2:] if some_cut else stored.answer(given).frame
-        yield from (fit(*frame, 6), fit(*frame, 5), fit(frame[0], 0, 6), fit(*frame[::-1], 5), show(6), BACK, fit(*frame, 7))
+        for box in asked:
+            yield fit(*box[::-1], 6)
+        width, height = frame = some_cut[2:] if some_cut else stored.answer(given).frame
+        yield from (fit(*frame, 6), fit(*frame, 5), fit(0, 0, 6), fit(*frame[::-1], 5), show(6))
+        yield from (fit(width, 0, 6), fit(0, height, 6), fit(height, 0, 6), fit(0, width, 5))
+        yield from (BACK, fit(*frame, 7), fit(width, 0, 7))
 
 
 # Eight names: some that others begin with, two that a zero byte makes unlike, two that agree in 15 of 16 bytes.
@@ -231,7 +235,7 @@ def around_loads():
     yield from eight_names(OTHERS, NAMES)
     yield from (load(*orientations.NAMED), *map(return_to, OTHERS))
     yield from eight_names(NAMES, TWINS)
-    yield from (load(*orientations.NAMED), keep(NAMES[5]), load(*orientations.CORNER), return_to(NAMES[5]))
+    yield from (load(*orientations.NAMED), keep(NAMES[5]), load(*photographs.CORNER), return_to(NAMES[5]))
 
 
 def kept_edits():

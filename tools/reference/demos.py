@@ -192,6 +192,76 @@ def orientations():
     yield script.LIST, on_its_side % (700, 1000)
 
 
+def columns():
+    # A position recorded in 6000 by 4000, at (2400, 1500), with an area of 400 by 300. A cut of 3600 by 2100 from (1200, 600):
+    # (1200, 900). Half of the area is 200 by 150, so that it fits.
+    position = ((6000, 4000), (2400, 1500), (400, 300))
+    yield script.load(recorded_block(b"0101", "big", position, 1, (0, 0), []), None, None, b"NIKON D4"), "ok"
+    yield script.cut(1200, 600, 3600, 2100), "ok"
+    cut = "frame 3600 2100 points 1 primary 0 mode 1 origin 1\n0 1200 900 400 300 2"
+    yield script.LIST, cut
+    # A page of columns of 276, 16 apart: two are 568 wide, three are 860. The box's blank height is scale(2100, 3600, width).
+    # box    floor((2100 * 276 + 1800) / 3600) = floor(161.5) = 161
+    # x      floor((1200 * 276 + 1800) / 3600) = floor(92.5)  =  92
+    # y      floor(( 900 * 161 + 1050) / 2100) = floor(69.5)  =  69
+    # width  floor(( 400 * 276 + 1800) / 3600) = floor(31.17) =  31
+    # height floor(( 300 * 161 + 1050) / 2100) = floor(23.5)  =  23
+    yield script.fit(276, 0), "frame 276 161 points 1 primary 0 mode 1 origin 1\n0 92 69 31 23 2"
+    # box    floor((2100 * 568 + 1800) / 3600) = floor(331.83) = 331
+    # x      floor((1200 * 568 + 1800) / 3600) = floor(189.83) = 189
+    # y      floor(( 900 * 331 + 1050) / 2100) = floor(142.36) = 142
+    # width  floor(( 400 * 568 + 1800) / 3600) = floor(63.61)  =  63
+    # height floor(( 300 * 331 + 1050) / 2100) = floor(47.79)  =  47
+    yield script.fit(568, 0), "frame 568 331 points 1 primary 0 mode 1 origin 1\n0 189 142 63 47 2"
+    # box    floor((2100 * 860 + 1800) / 3600) = floor(502.17) = 502
+    # x      floor((1200 * 860 + 1800) / 3600) = floor(287.17) = 287
+    # y      floor(( 900 * 502 + 1050) / 2100) = floor(215.64) = 215
+    # width  floor(( 400 * 860 + 1800) / 3600) = floor(96.06)  =  96
+    # height floor(( 300 * 502 + 1050) / 2100) = floor(72.21)  =  72
+    three = "frame 860 502 points 1 primary 0 mode 1 origin 1\n0 287 215 96 72 2"
+    yield script.fit(860, 0), three
+    # The same box with both its sides.
+    yield script.fit(860, 502), three
+    # A row of 250, its width blank: scale(3600, 2100, 250).
+    # box    floor((3600 * 250 + 1050) / 2100) = floor(429.07) = 429
+    # x      floor((1200 * 429 + 1800) / 3600) = floor(143.5)  = 143
+    # y      floor(( 900 * 250 + 1050) / 2100) = floor(107.64) = 107
+    # width  floor(( 400 * 429 + 1800) / 3600) = floor(48.17)  =  48
+    # height floor(( 300 * 250 + 1050) / 2100) = floor(36.21)  =  36
+    yield script.fit(0, 250), "frame 429 250 points 1 primary 0 mode 1 origin 1\n0 143 107 48 36 2"
+    # A half goes up: 2100 * 30 / 3600 = 17.5.
+    # box    floor((2100 * 30 + 1800) / 3600) = floor(18)   = 18
+    # x      floor((1200 * 30 + 1800) / 3600) = floor(10.5) = 10
+    # y      floor(( 900 * 18 + 1050) / 2100) = floor(8.21) =  8
+    # width  floor(( 400 * 30 + 1800) / 3600) = floor(3.83) =  3
+    # height floor(( 300 * 18 + 1050) / 2100) = floor(3.07) =  3
+    yield script.fit(30, 0), "frame 30 18 points 1 primary 0 mode 1 origin 1\n0 10 8 3 3 2"
+    # Nothing is given.
+    yield script.fit(0, 0), "no 12"
+    # The sheet is as it was.
+    yield script.LIST, cut
+    # On its side, in 2100 by 3600, at (2100 - 900, 1200): scale(3600, 2100, 276).
+    # box    floor((3600 * 276 + 1050) / 2100) = floor(473.64) = 473
+    # x      floor((1200 * 276 + 1050) / 2100) = floor(158.21) = 158
+    # y      floor((1200 * 473 + 1800) / 3600) = floor(158.17) = 158
+    # width  floor(( 300 * 276 + 1050) / 2100) = floor(39.93)  =  39
+    # height floor(( 400 * 473 + 1800) / 3600) = floor(53.06)  =  53
+    yield script.orient(6), "ok"
+    yield script.fit(276, 0), "frame 276 473 points 1 primary 0 mode 1 origin 1\n0 158 158 39 53 2"
+    yield script.BACK, "ok"
+    # A flat cut, of 3600 by 300 from (0, 750): (1200, 150). A column of 5, and one of 6:
+    # box    floor(( 300 * 5 + 1800) / 3600) = floor(0.92) = 0
+    # box    floor(( 300 * 6 + 1800) / 3600) = floor(1)    = 1
+    # x      floor((1200 * 6 + 1800) / 3600) = floor(2.5)  = 2
+    # y      floor(( 150 * 1 + 150) / 300)   = floor(1)    = 1
+    # width  floor(( 400 * 6 + 1800) / 3600) = floor(1.17) = 1
+    # height floor(( 300 * 1 + 150) / 300)   = floor(1.5)  = 1
+    # From y = 1 to the lower edge nothing is left, and so nothing of the area.
+    yield script.cut(0, 750, 3600, 300), "ok"
+    yield script.fit(5, 0), "no 12"
+    yield script.fit(6, 0), "frame 6 1 points 1 primary 0 mode 1 origin 1\n0 2 1 0 0 2"
+
+
 def refusals():
     plain = named_block("big", 1, 1)
     yield script.load(plain[:7]), "no 1"  # a block of seven bytes
@@ -220,7 +290,11 @@ def refusals():
     yield script.LIST, "frame 4016 6016 points 1 primary 0 mode 1 origin 2\n1 2007 3008 164 164 0"
     yield script.load(plain), "ok"
     yield script.BACK, "no 11"  # the load has replaced the edits
-    yield script.fit(0, 100), "no 12"  # and not 19
+    yield script.fit(0, 0), "no 12"  # no sides
+    # A cut of 6016 by 164, which point 1 just fits: a column of 18 is floor((164 * 18 + 3008) / 6016) = floor(0.99) = 0 high.
+    yield script.cut(0, 1925, 6016, 164), "ok"
+    yield script.fit(18, 0), "no 12"
+    yield script.BACK, "ok"
     yield script.fit(1200, 800), "no 19"  # 4016 * 1200 - 6016 * 800 = 6400, and the longest side is 6016
     yield script.fit(4016, 6016), "no 19"  # the frame on its side, as it was listed above
     body = script.load_body(None, None, reference.MODEL, plain)
@@ -278,7 +352,7 @@ def files():
     """The files, as (path, bytes)."""
     shown = {}
     for name, pairs in (
-        ("whole-case", whole_case()), ("dx-crop", dx_crop()), ("recorded", recorded()),
+        ("whole-case", whole_case()), ("dx-crop", dx_crop()), ("recorded", recorded()), ("columns", columns()),
         ("orientations", orientations()), ("contents", contents()), ("refusals", refusals()),
     ):
         given, printed = worked(pairs)

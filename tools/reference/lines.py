@@ -8,8 +8,9 @@ contents, and malformed lines. The same seed gives the same lines. Most calls
 meet a loaded sheet; at the front there is a stretch that leaves it empty. The
 last feed is missing now and then. The loads are those that are stored for
 placing_test, or those of a FILE of load lines (as tools/oracle's `loads` prints
-them), and the blocks of readers.py; as they are and changed: other sizes,
-models, named points and positions, damaged entries, entries in another order.
+them), the extreme ones of photographs.py and the blocks of readers.py; as they
+are and changed: other sizes, models, named points and positions, damaged entries,
+entries in another order.
 Contents lines have these blocks too; more than half have a directory by chance,
 of the four tags and others in any order, repeated, damaged and of types that
 are passed over. --tally counts the answers of reference.py.
@@ -23,6 +24,7 @@ import sys
 
 sys.dont_write_bytecode = True
 
+import photographs
 import readers
 import reference
 import script
@@ -31,7 +33,7 @@ import stored
 MAX_U32 = reference.MAX_U32
 SIZES = [None, None, (0, 0), (0, 7), (5, 0), reference.MEDIUM_PICTURE, reference.DX_FRAME, reference.WHOLE_FRAME,
          (3008, 2008), (4512, 3007), (3935, 2624), (MAX_U32, MAX_U32), (MAX_U32 - 1, MAX_U32), (MAX_U32, 2),
-         (1, 1)]
+         (1, MAX_U32), (1, 1)]
 MODELS = [b"", b"NIKON D60", b"NIKON D6000", b"NIKON D600 ", b" NIKON D600", b"NIKON D600\0", b"NIKON D610",
           b"nikon d600", b"NIKON D601", b"N" * 255]
 EDGES = [block for _, block in readers.cases() if len(block) <= 2000]
@@ -44,7 +46,7 @@ PASSED_OVER = [0, 0, 14, 14, 15, 255, 256, 0x0107, 0x0700, 65535]
 
 @functools.lru_cache(maxsize=None)
 def pools(path):
-    """The loads to draw from, by answer: origin 1 or 2, many points, no 1 to 6."""
+    """The loads to draw from, by answer: origin 1 or 2, many points, extreme frames, no 1 to 6."""
     if path is None:
         loads = list(stored.loads())
     else:
@@ -62,6 +64,7 @@ def pools(path):
             found["origin %d" % answer.origin].append(given)
             if len(answer.points) > 4:
                 found["many"].append(given)
+    found["extreme"] = photographs.EXTREME
     return {name: found[name] for name in sorted(found)}
 
 
@@ -178,7 +181,7 @@ def changed(chance, given):
 def a_load(chance, path, wanted):
     """A load's arguments with a wanted answer: accepted, or `no` and a number."""
     found = pools(path)
-    accepted = [name for name in ("origin 1", "origin 1", "origin 2", "many") if name in found]
+    accepted = [name for name in ("origin 1", "origin 1", "origin 2", "many", "extreme") if name in found]
     while True:
         of_its_own = wanted in found and chance.random() < 0.6
         given = chance.choice(found[wanted if of_its_own else chance.choice(accepted)])

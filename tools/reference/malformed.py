@@ -29,7 +29,7 @@ OTHER = demos.named_block("little", 2, 1 << 1)
 BODY = script.load_body(None, None, reference.MODEL, BLOCK)
 TURN, MIRROR = script.orient(6), script.orient(2)
 # What script_test has room for: its script, and its answers.
-ROOM = (262_144, 65_536)
+ROOM = (327_680, 131_072)
 
 
 def filled(line, length):

@@ -5,7 +5,7 @@ steps one after the other, and nothing is written where the two differ."""
 
 import demos
 import lines
-import readers
+import photographs
 import reference
 import script
 import stored
@@ -28,25 +28,12 @@ GOES = {
 # ----------------------------------------------------------- the photographs
 
 
-def recorded(centre, area, *entries, picture=None):
-    """A position in a frame of 6000 by 4000, behind these entries."""
-    block = demos.recorded_block(b"0101", "big", ((6000, 4000), centre, area), 1, (0, 0), entries)
-    return None, picture, b"", block
-
-
 # Of the D600's points those next to the bottom (10, the primary), the top (13), the right edge (27) and the left one (38).
 NAMED = (None, None, reference.MODEL, demos.named_block("little", 10, 1 << 13 - 1 | 1 << 27 - 1 | 1 << 38 - 1))
 # Areas that touch the left edge and the bottom, the right edge and the top; half of 301 is 151, rounded up.
-LEFT_BOTTOM = recorded((151, 3900), (301, 200))
-RIGHT_TOP = recorded((5850, 51), (300, 101))
-# A corner without an area, at (0, 2) of 3 by 2: x is floor((500 * 3 + 3000) / 6000), y is floor((3800 * 2 + 2000) / 4000).
-CORNER = recorded((500, 3800), (300, 200), (0x1B, 3, 7, readers.numbers("big", 2, 9, 6000, 4000, 3000, 2000, 0, 0)), picture=(3, 2))
-PHOTOGRAPHS = (NAMED, LEFT_BOTTOM, RIGHT_TOP, CORNER)
-
-
-def load_line(given):
-    raw, picture, model, block = given
-    return script.load(block, raw, picture, model)
+LEFT_BOTTOM = photographs.recorded((151, 3900), (301, 200))
+RIGHT_TOP = photographs.recorded((5850, 51), (300, 101))
+PHOTOGRAPHS = (NAMED, LEFT_BOTTOM, RIGHT_TOP, photographs.CORNER)
 
 
 def oriented(placed, *numbers):
@@ -90,7 +77,7 @@ def each():
     """Each photograph in each orientation, listed and fitted, with a back in between: 3 by 2 is its shape, near enough, up to 4."""
     for given in PHOTOGRAPHS:
         placed = stored.answer(given)
-        yield load_line(given), "ok"
+        yield photographs.load_line(given), "ok"
         for number in EIGHT:
             yield script.orient(number), "ok"
             yield script.LIST, shown(oriented(placed, number))
@@ -104,7 +91,7 @@ def each():
 def cuts():
     """Cuts after each orientation, a pixel too wide, a pixel too high, and the smallest; behind it another orientation."""
     placed = stored.answer(NAMED)
-    yield load_line(NAMED), "ok"
+    yield photographs.load_line(NAMED), "ok"
     for number in EIGHT:
         before = oriented(placed, number)
         width, height = before.frame
@@ -123,7 +110,7 @@ def cuts():
 def singles():
     """Every two orientations, and longer lists; then, these taken back, the single one that places as they do."""
     placed = stored.answer(LEFT_BOTTOM)
-    yield load_line(LEFT_BOTTOM), "ok"
+    yield photographs.load_line(LEFT_BOTTOM), "ok"
     lists = [(one, other) for one in EIGHT for other in EIGHT]
     for numbers in lists + [(7, 5, 8), (8, 7, 5, 4, 3, 2) * 3, (2, 5, 8, 3, 6, 7, 4) * 9 + (1,)]:
         listing = shown(oriented(placed, *numbers))
@@ -142,7 +129,7 @@ def refusals():
     """15, and 8 before it. Orientation 1 counts to the 64, and a number that is refused does not."""
     listing = shown(stored.answer(RIGHT_TOP))
     outside = (0, 9, 16, 128, 255)
-    yield load_line(RIGHT_TOP), "ok"
+    yield photographs.load_line(RIGHT_TOP), "ok"
     for number in outside:
         yield script.orient(number), "no 15"
     yield script.BACK, "no 11"
@@ -165,7 +152,7 @@ def by_chance(seed, times):
     """Each photograph so many times, with orientations, cuts and backs on it."""
     made = lines.Script(seed)
     for given in PHOTOGRAPHS * times:
-        made.add(load_line(given))
+        made.add(photographs.load_line(given))
         made.calls(15, {"orient": 12, "cut": 6, "back": 3, "list": 6, "fit": 1})
     return ((line, None) for line in made.lines)
 

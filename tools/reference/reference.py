@@ -242,6 +242,17 @@ def scale_point(point, old, new):
     return point._replace(x=x, y=y, width=width, height=height)
 
 
+def worked_box(frame, box):
+    """'A box with one zero side is now answered: the missing side is scale(that
+    frame side, the given frame side, the given side).' Any other box is as given."""
+    width, height = box
+    if width == 0 and height != 0:
+        return (scale(frame[0], frame[1], height), height)
+    if height == 0 and width != 0:
+        return (width, scale(frame[1], frame[0], width))
+    return (width, height)
+
+
 def shape_difference(frame, box):
     """'|frame width × box height − frame height × box width|'."""
     return abs(frame[0] * box[1] - frame[1] * box[0])
@@ -525,15 +536,18 @@ class Book:
         return self._write(buffer, self.frame(), self.listed())
 
     def fit(self, width, height, buffer):
+        """'Both zero, or a worked side of 0, still give 12; the worked box is then
+        put to the shape test like any other.'"""
         if self.held is None:
             return no(7)
-        if width == 0 or height == 0:
-            return no(12)
         frame = self.frame()
-        if not same_shape(frame, (width, height)):
+        box = worked_box(frame, (width, height))
+        if 0 in box:
+            return no(12)
+        if not same_shape(frame, box):
             return no(19)
-        scaled = [(i, scale_point(point, frame, (width, height))) for i, point in self.listed()]
-        return self._write(buffer, (width, height), scaled)
+        scaled = [(i, scale_point(point, frame, box)) for i, point in self.listed()]
+        return self._write(buffer, box, scaled)
 
     def _write(self, buffer, frame, listed):
         if len(buffer) < 6 * len(listed):
@@ -782,6 +796,27 @@ def kept_checks():
     ]
 
 
+def book_of(*calls):
+    """Point 1, at (3008, 2007) in 6016 by 4016, and these calls."""
+    book = Book()
+    for name, *arguments in [("load", named_block(1), None, None, MODEL), *calls]:
+        getattr(book, name)(*arguments)
+    return book
+
+
+def fitted(book, *boxes, places=6):
+    """What fits answer if they refuse and keep the buffer; else the answer's frame, and what is in the buffer."""
+    answers = []
+    for box in boxes:
+        buffer = [9] * places
+        answer = book.fit(*box, buffer)
+        answers.append(answer if refused(answer) and buffer == [9] * places else [*answer.frame, *buffer])
+    return answers
+
+
+SMALL_CUT = ("cut", 2900, 1900, 400, 300)
+
+
 def shape_checks():
     """Boxes judged by their shape, as (what it is, got, wanted)."""
     most = MAX_U32
@@ -790,24 +825,8 @@ def shape_checks():
         """The answers of `same_shape`, then those with the sides of frame and box exchanged."""
         return [same_shape(frame[::way], box[::way]) for way in (1, -1) for box in boxes]
 
-    def fitted(book, *boxes, places=6):
-        """What fits answer if they refuse and keep the buffer; else what is in it."""
-        answers = []
-        for box in boxes:
-            buffer = [9] * places
-            answer = book.fit(*box, buffer)
-            answers.append(answer if refused(answer) and buffer == [9] * places else buffer)
-        return answers
-
-    def book_of(*calls):
-        """Point 1, at (3008, 2007) in 6016 by 4016, and these calls."""
-        book = Book()
-        for name, *arguments in [("load", named_block(1), None, None, MODEL), *calls]:
-            getattr(book, name)(*arguments)
-        return book
-
     whole, on_its_side = book_of(), book_of(TURN_CALL)
-    cut, square = book_of(("cut", 2900, 1900, 400, 300)), book_of(("cut", 2900, 1900, 400, 400), TURN_CALL)
+    cut, square = book_of(SMALL_CUT), book_of(("cut", 2900, 1900, 400, 400), TURN_CALL)
     return [
         # For a frame of 7 by 5 it is 7 * height - 5 * width; the longest side is the frame's 7, then that of the box.
         ("one below: 6, -6; -11, 12", judged((7, 5), (3, 3), (4, 2), (12, 7), (13, 11)), [True] * 8),
@@ -817,21 +836,84 @@ def shape_checks():
         ("the largest sides, one below, at and above",
          judged((most, most - 1), (most - 1, most - 1), (most, most), (1, 2)), [True, True, False] * 2),
         ("a difference of 2 to the 32nd", judged((65536, 65536), (65536, 131072)), [False] * 2),
-        ("a box that is off by a little", fitted(whole, (300, 200)), [[1, 150, 100, 8, 8, 0]]),  # 1600 <= 6016
+        ("a box that is off by a little", fitted(whole, (300, 200)), [[300, 200, 1, 150, 100, 8, 8, 0]]),  # 1600 <= 6016
         # 6016 * 252 - 4016 * 376 = 6016; with 250, -6016.
         ("a box that is off by the most", fitted(whole, (376, 252), (376, 250)),
-         [[1, 188, 126, 10, 10, 0], [1, 188, 125, 10, 10, 0]]),
+         [[376, 252, 1, 188, 126, 10, 10, 0], [376, 250, 1, 188, 125, 10, 10, 0]]),
         ("boxes of another shape", fitted(whole, (376, 253), (376, 249), (1200, 800), (4016, 6016)), [no(19)] * 4),
         ("the load's frame on its side", fitted(on_its_side, (6016, 4016), (300, 200)), [no(19)] * 2),
         ("the present one", fitted(on_its_side, (4016, 6016), (200, 300)),
-         [[1, 2009, 3008, 164, 164, 0], [1, 100, 150, 8, 8, 0]]),
-        ("the frame of a cut", fitted(cut, (6016, 4016), (300, 200), (40, 30)), [no(19), no(19), [1, 11, 11, 16, 16, 0]]),
+         [[4016, 6016, 1, 2009, 3008, 164, 164, 0], [200, 300, 1, 100, 150, 8, 8, 0]]),
+        ("the frame of a cut", fitted(cut, (6016, 4016), (300, 200), (40, 30)), [no(19), no(19), [40, 30, 1, 11, 11, 16, 16, 0]]),
         ("a square on its side", fitted(square, (400, 400), (40, 41), (40, 42)),
-         [[1, 293, 108, 164, 164, 0], [1, 29, 11, 16, 17, 0], no(19)]),
-        ("12 before 19 and 13", fitted(whole, (0, 4016), (6016, 0), (0, 0), places=0), [no(12)] * 3),
+         [[400, 400, 1, 293, 108, 164, 164, 0], [40, 41, 1, 29, 11, 16, 17, 0], no(19)]),
+        ("12 before 13", fitted(whole, (0, 0), places=0), [no(12)]),
         ("19 before 13", fitted(whole, (6016, 6016), (376, 253), places=5), [no(19)] * 2),
         ("13 after it", fitted(whole, (6016, 4016), (376, 252), places=5), [no(13)] * 2),
         ("7 before them", fitted(Book(), (0, 0), (1, 9), (300, 200), places=0), [no(7)] * 3),
+    ]
+
+
+def blank_checks():
+    """Boxes with a side left blank, as (what it is, got, wanted). The quotients are worked out before half a pixel is added."""
+    most = MAX_U32
+
+    def in_frame(*frame):
+        """A load with one point, without an area, in the lower right corner of this frame."""
+        book = Book()
+        book.held = Placed(frame, (Point(0, *frame, 0, 0, 0),), 0, 1, 1)
+        return book
+
+    def worked(frame, *boxes):
+        """The worked boxes, or the refusals; then those with the sides of frame and boxes exchanged, exchanged back."""
+        answers = []
+        for way in (1, -1):
+            for answer in fitted(in_frame(*frame[::way]), *(box[::way] for box in boxes)):
+                answers.append(answer if refused(answer) else tuple(answer[:2][::way]))
+        return answers
+
+    whole, on_its_side, cut = book_of(), book_of(TURN_CALL), book_of(SMALL_CUT)
+    return [
+        # 4016 * 376 / 6016 = 251, 4016 * 300 / 6016 = 200.27.
+        ("a blank height", fitted(whole, (376, 0), (300, 0)),
+         [[376, 251, 1, 188, 125, 10, 10, 0], [300, 200, 1, 150, 100, 8, 8, 0]]),
+        # 6016 * 251 / 4016 = 376, 6016 * 200 / 4016 = 299.60.
+        ("a blank width", fitted(whole, (0, 251), (0, 200)),
+         [[376, 251, 1, 188, 125, 10, 10, 0], [300, 200, 1, 150, 100, 8, 8, 0]]),
+        # In 4016 by 6016: 6016 * 300 / 4016 = 449.40, 4016 * 300 / 6016 = 200.27. The load's frame gives 300 by 200, 449 by 300.
+        ("on its side", fitted(on_its_side, (300, 0), (0, 300)),
+         [[300, 449, 1, 150, 225, 12, 12, 0], [200, 300, 1, 100, 150, 8, 8, 0]]),
+        # In 400 by 300: 30 and 40. The load's frame gives 27 (26.70) and 45 (44.94).
+        ("behind a cut", fitted(cut, (40, 0), (0, 30)), [[40, 30, 1, 11, 11, 16, 16, 0]] * 2),
+        # 4016 * 1200 / 6016 = 801.06, 4016 * most / 6016 = 2867119124.88.
+        ("as the box with both sides", fitted(whole, (1200, 0), (0, 4016), (most, 0)),
+         fitted(whole, (1200, 801), (6016, 4016), (most, 2867119125))),
+        # 2 * 1 / 3 = 0.67, 2 * 2 / 3 = 1.33, 2 * 4 / 3 = 2.67; 3 * 1 / 2 = 1.5, 3 * 2 / 2 = 3, 3 * 3 / 2 = 4.5.
+        ("the nearest pixel", worked((3, 2), (1, 0), (2, 0), (4, 0)), [(1, 1), (2, 1), (4, 3)] * 2),
+        ("a half goes up", worked((3, 2), (0, 1), (0, 2), (0, 3)), [(2, 1), (3, 2), (5, 3)] * 2),
+        # 3 / 7 and 4 / 7; 3 / 8 and 4 / 8, which is a half.
+        ("a worked side of 0, and just not", worked((7, 1), (3, 0), (4, 0)), [no(12), (4, 1)] * 2),
+        ("the same where a half is met", worked((8, 1), (3, 0), (4, 0)), [no(12), (4, 1)] * 2),
+        # 1 * 2147483647 / most is less than a half, and 2147483648 / most is more.
+        ("the same in the flattest frame",
+         worked((most, 1), (1, 0), (2147483647, 0), (2147483648, 0), (most, 0)),
+         [no(12), no(12), (2147483648, 1), (most, 1)] * 2),
+        ("both blank", worked((7, 5), (0, 0)) + worked((most, 1), (0, 0)) + fitted(cut, (0, 0)), [no(12)] * 5),
+        # most * g / 1 is most, twice and three times that; the box is off by (g - 1) * most, and may be off by most.
+        ("capped and accepted, capped and refused", worked((1, most), (1, 0), (2, 0), (3, 0), (most, 0)),
+         [(1, most), (2, most), no(19), no(19)] * 2),
+        # 3 * g / 1 is most for 1431655765; the box is off by 3 * g - most: by 3, by most, by most + 3.
+        ("the first that is capped, the last that is accepted, the next",
+         worked((3, 1), (0, 1431655765), (0, 1431655766), (0, 2863311530), (0, 2863311531)),
+         [(most, 1431655765), (most, 1431655766), (most, 2863311530), no(19)] * 2),
+        # most * most / (most - 1) = most + 1.00, capped: off by most * most - (most - 1) * most = most.
+        ("the largest sides", worked((most, most - 1), (0, most - 1), (0, most), (most, 0)),
+         [(most, most - 1), (most, most), (most, most - 1)] * 2),
+        ("12 for a worked side before 13", fitted(in_frame(7, 1), (3, 0), places=0), [no(12)]),
+        ("19 before 13", fitted(in_frame(1, most), (3, 0), places=5), [no(19)]),
+        ("13 after them", fitted(whole, (376, 0), (0, 251), places=5) + fitted(in_frame(1, most), (2, 0), places=5),
+         [no(13)] * 3),
+        ("7 before them all", fitted(Book(), (0, 0), (5, 0), (0, 5), (most, 0), places=0), [no(7)] * 4),
     ]
 
 
@@ -921,8 +1003,8 @@ def self_test():
         ("a short buffer", book.list([9] * 5), no(13)),
         ("cut past the frame", book.cut(1, 0, 6016, 1), no(9)),
         ("cut that drops the primary", book.cut(0, 0, 100, 100), no(10)),
-        ("fit to a zero side", book.fit(0, 5, []), no(12)),
-    ] + name_checks() + kept_checks() + shape_checks()
+        ("fit to no sides", book.fit(0, 0, []), no(12)),
+    ] + name_checks() + kept_checks() + shape_checks() + blank_checks()
     failed = [(name, got, wanted) for name, got, wanted in checks if got != wanted]
     for name, got, wanted in failed:
         print("%s: got %r, wanted %r" % (name, got, wanted))

@@ -4,10 +4,10 @@ states.py --check    say whether the files are what would be written
 
 Writes the jobs of the program state_bench, stdin of that crate, each kind of it
 some times over, behind one turn, kinds 1, 5 and 6 behind none, 32 and 64 equal
-edits, and kind 9 behind none, one and 32, to boxes that are accepted and refused;
-and what it must print, its stdout: what the book of reference.py answers to the
-last of the same calls, how many edits then stand, and the sum of what is listed.
-The times themselves are taken by tools/bench.
+edits, and kind 9 behind none, one and 32, to boxes that are accepted and refused,
+with both sides and with one left blank; and what it must print, its stdout: what
+the book of reference.py answers to the last of the same calls, how many edits then
+stand, and the sum of what is listed. The times themselves are taken by tools/bench.
 """
 
 import struct
@@ -31,7 +31,8 @@ EQUAL = {
 }
 
 # For a frame of 6016 by 4016: a quarter of each side; off by 1600 where 6016 is the most; and off by 6400, which is refused.
-BOXES = ((1504, 1004), (300, 200), (1200, 800))
+# Then with a blank side: worked out as the first, as 1200 by 801, and, refused, as 4294967295 by 4294967295; and without sides.
+BOXES = ((1504, 1004), (300, 200), (1200, 800), (0, 1004), (1200, 0), (0, reference.MAX_U32), (0, 0))
 # The kinds, and those that write into a buffer.
 KINDS, LISTS = range(1, 10), (5, 6, 9)
 

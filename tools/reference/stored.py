@@ -62,15 +62,17 @@ def an_orientation(chance):
 
 
 def a_box(chance, book):
-    """A box for fitting: of the present frame's shape or nearly, where that just ends, or of another."""
+    """A box for fitting: of the present frame's shape or nearly, where that just ends, or of another; or with blank sides."""
     any_box = [chance.choice(SIDES + [chance.randrange(1, 9000)]) for _ in range(2)]
     if book.held is None:
-        return chance.choice([any_box, [0, 0]])
+        return chance.choice([any_box, [0, any_box[1]], [any_box[0], 0], [0, 0]])
     frame, held = book.frame(), book.held.frame
     longest = max(frame)
-    way = chance.choices(["zero", "times", "scaled", "edge", "exchanged", "any"], [8, 18, 30, 26, 8, 10])[0]
-    if way == "zero":
-        return chance.choice([[0, 0], [0, frame[1]], [frame[0], 0], [0, any_box[1]], [any_box[0], 0]])
+    way = chance.choices(["none", "blank", "times", "scaled", "edge", "exchanged", "any"], [3, 60, 18, 30, 26, 8, 10])[0]
+    if way == "none":
+        return [0, 0]
+    if way == "blank":
+        return box_with_a_blank(chance, frame)
     if way == "edge":
         return box_at_the_edge(chance, frame)
     if way == "exchanged":
@@ -88,6 +90,31 @@ def a_box(chance, book):
     if chance.random() < 0.5:
         box[chance.randrange(2)] += chance.choice([-1, 1])
     return [min(side, MAX_U32) for side in box]
+
+
+def box_with_a_blank(chance, frame):
+    """A box with a blank side: a column or a row of a page, of any side, or where the worked side is just 0 or just not, is just
+    over the largest number or just not, or the worked box is just refused or just not; or between these last two."""
+    is_thin = max(frame) > 2 * min(frame)  # a worked side can be 0
+    way = chance.choices(["page", "any", "nothing", "capped", "refused", "between"], [10, 4, 14 * is_thin, 4, 8, 3])[0]
+    axis = chance.randrange(2)  # that of the given side
+    if way == "nothing":
+        axis = frame.index(max(frame))
+    elif way in ("capped", "refused", "between"):
+        axis = frame.index(min(frame))
+    given, other = frame[axis], frame[1 - axis]
+    first_capped = (given * MAX_U32 + (given + 1) // 2 - 1) // other + 1
+    first_refused = (given + 1) * MAX_U32 // other + 1
+    side = {
+        "page": chance.randrange(1, 5001),
+        "any": chance.choice(SIDES + list(frame) + [chance.randrange(1, MAX_U32 + 1)]),
+        "nothing": (given - 1) // (2 * other) + 1 + chance.choice([-2, -1, -1, 0, 0, 1]),
+        "capped": first_capped + chance.choice([-2, -1, 0, 1]),
+        "refused": first_refused + chance.choice([-2, -1, 0, 1]),
+        "between": chance.randrange(first_capped, max(first_capped, first_refused) + 1),
+    }[way]
+    side = min(max(side, 1), MAX_U32)
+    return [side, 0] if axis == 0 else [0, side]
 
 
 def box_at_the_edge(chance, frame):

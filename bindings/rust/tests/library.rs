@@ -240,9 +240,22 @@ fn load_line(block: &[u8]) -> String {
     call_line(&load)
 }
 
+/// The line that cuts.
+fn cut_line(left: u32, top: u32, width: u32, height: u32) -> String {
+    let numbers = [left, top, width, height].map(u32::to_be_bytes).concat();
+    call_line(&[&[2][..], &numbers].concat())
+}
+
 /// The line that fits to a box.
 fn fit_line(width: u32, height: u32) -> String {
     call_line(&[&[7][..], &width.to_be_bytes(), &height.to_be_bytes()].concat())
+}
+
+/// Lines, each with its answer, as one script.
+fn assert_answered<const N: usize>(calls: [(String, &str); N]) {
+    let (lines, answers): (Vec<String>, Vec<&str>) = calls.into_iter().unzip();
+    let printed = String::from_utf8(script(lines.join("\n").as_bytes())).unwrap();
+    assert_eq!(printed, answers.join("\n") + "\n");
 }
 
 #[test]
@@ -256,7 +269,6 @@ fn a_box_has_the_shape_of_the_frame() {
             "frame 376 252 points 2 primary 0 mode 1 origin 2\n1 188 126 10 10 0\n16 218 126 10 10 0",
         ),
         (fit_line(376, 253), "no 19"),
-        (fit_line(0, 253), "no 12"),
         (call_line(&[9, 6]), "ok"),
         (fit_line(376, 252), "no 19"),
         (
@@ -264,9 +276,42 @@ fn a_box_has_the_shape_of_the_frame() {
             "frame 252 376 points 2 primary 0 mode 1 origin 2\n1 126 188 10 10 0\n16 126 218 10 10 0",
         ),
     ];
-    let (lines, answers): (Vec<String>, Vec<&str>) = calls.into_iter().unzip();
-    let printed = String::from_utf8(script(lines.join("\n").as_bytes())).unwrap();
-    assert_eq!(printed, answers.join("\n") + "\n");
+    assert_answered(calls);
+}
+
+#[test]
+fn a_blank_side_of_a_box_follows_the_other() {
+    let calls = [
+        (fit_line(376, 0), "no 7"),
+        (load_line(&whole_case()), "ok"),
+        // In 6016 by 4016: 4016 * 376 / 6016 = 251; 6016 * 253 / 4016 = 378.996, nearest 379.
+        (
+            fit_line(376, 0),
+            "frame 376 251 points 2 primary 0 mode 1 origin 2\n1 188 125 10 10 0\n16 218 125 10 10 0",
+        ),
+        (
+            fit_line(0, 253),
+            "frame 379 253 points 2 primary 0 mode 1 origin 2\n1 190 126 10 10 0\n16 220 126 10 10 0",
+        ),
+        // The worked width is too long for a number and becomes the largest; that box is a square.
+        (fit_line(0, 4294967295), "no 19"),
+        (fit_line(0, 0), "no 12"),
+        // In 4016 by 6016: 6016 * 376 / 4016 = 563.25, nearest 563.
+        (call_line(&[9, 6]), "ok"),
+        (
+            fit_line(376, 0),
+            "frame 376 563 points 2 primary 0 mode 1 origin 2\n1 188 282 15 15 0\n16 188 326 15 15 0",
+        ),
+        (call_line(&[5]), "ok"),
+        // In 6016 by 164, from (0, 1925): 164 * 18 / 6016 = 0.49, nearest 0; 164 * 19 / 6016 = 0.52, nearest 1.
+        (cut_line(0, 1925, 6016, 164), "ok"),
+        (fit_line(18, 0), "no 12"),
+        (
+            fit_line(19, 0),
+            "frame 19 1 points 2 primary 0 mode 1 origin 2\n1 10 1 0 0 0\n16 11 1 0 0 0",
+        ),
+    ];
+    assert_answered(calls);
 }
 
 #[test]

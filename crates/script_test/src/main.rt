@@ -7,10 +7,17 @@ ghost use mathlib.Core.Path.{_≡_};
 ghost use lib.ListN.{length};
 
 // Room for the script.
-fn script_space() -> [u8; 262144]
-    ensures { λ r. ⌜ 262144 ≡ length r ⌝ }
+fn script_space() -> [u8; 327680]
+    ensures { λ r. ⌜ 327680 ≡ length r ⌝ }
 {
-    [0; 262144]
+    [0; 327680]
+}
+
+// Room for its answers.
+fn answer_space() -> [u8; 131072]
+    ensures { λ r. ⌜ 131072 ≡ length r ⌝ }
+{
+    [0; 131072]
 }
 
 // Answers a script into a buffer, and prints what it is answered.
@@ -28,6 +35,6 @@ fn print_answers(script: &[u8], out: &mut [u8]) {
 fn main() {
     let mut script = script_space();
     let n = io::read_full(STDIN_FILENO, &mut script);
-    let mut out = io::large_buffer();
+    let mut out = answer_space();
     print_answers(&script[..n], &mut out);
 }
