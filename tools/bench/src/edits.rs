@@ -115,7 +115,8 @@ pub fn list(
     list_as(frame, points, primary, edits, |row| row, out)
 }
 
-/// Lists them in a box; 12 where it has a zero side, 19 where it has not the shape of the frame that the edits leave.
+/// Lists them in a box, whose blank side, 0, is worked out from the frame that the edits leave; 12 where a side is then zero, 19 where it
+/// has not that frame's shape.
 pub fn fit(
     frame: [u32; 2],
     points: &[[u32; 6]],
@@ -124,15 +125,25 @@ pub fn fit(
     to: [u32; 2],
     out: &mut [u32],
 ) -> Result<Head, u32> {
+    let from = carried(frame, points[primary], edits.clone()).frame;
+    let to = worked(from, to);
     if to.contains(&0) {
         return Err(12);
     }
-    let from = carried(frame, points[primary], edits.clone()).frame;
     if !same_shape(from, to) {
         return Err(19);
     }
     let head = list_as(frame, points, primary, edits, |row| scaled(row, from, to), out)?;
     Ok(Head { frame: to, ..head })
+}
+
+/// A box with its blank side worked out.
+fn worked([w, h]: [u32; 2], to: [u32; 2]) -> [u32; 2] {
+    match to {
+        [0, height] => [scale(w, h, height), height],
+        [width, 0] => [width, scale(h, w, width)],
+        _ => to,
+    }
 }
 
 /// Whether two frames have one shape, to within a pixel of rounding.

@@ -13,7 +13,7 @@ pub const NO_BOX: [u32; 2] = [0; 2];
 
 /// What is timed: a kind of state_bench, its name, whether a cut of the whole frame stands before it and not a turn, and its box. A state
 /// that comes later has its kinds here and in `plain`.
-pub const KINDS: [(u8, &str, bool, [u32; 2]); 11] = [
+pub const KINDS: [(u8, &str, bool, [u32; 2]); 12] = [
     (1, "a turn and a back, on a sheet", false, NO_BOX),
     (2, "a turn and a back, on a workspace", false, NO_BOX),
     (1, "a cut and a back, on a sheet behind a cut", true, NO_BOX),
@@ -24,6 +24,7 @@ pub const KINDS: [(u8, &str, bool, [u32; 2]); 11] = [
     (5, "a list of 39 points behind a turn, on a sheet", false, NO_BOX),
     (6, "a list of 39 points behind a turn, on a workspace", false, NO_BOX),
     (9, "a fit of 39 points behind a turn, on a sheet", false, [1004, 1504]),
+    (9, "a fit of 39 points with the height blank, behind a turn, on a sheet", false, [1004, 0]),
     (9, "a refused fit (19) behind a turn, on a sheet", false, [800, 1200]),
 ];
 
