@@ -810,7 +810,10 @@ def fitted(book, *boxes, places=6):
     for box in boxes:
         buffer = [9] * places
         answer = book.fit(*box, buffer)
-        answers.append(answer if refused(answer) and buffer == [9] * places else [*answer.frame, *buffer])
+        if refused(answer):
+            answers.append(answer if buffer == [9] * places else (answer, buffer))
+        else:
+            answers.append([*answer.frame, *buffer])
     return answers
 
 

@@ -28,10 +28,10 @@ fitted-length f row box = length-map (listing f row) (λ p. scaledPoint p (prese
 
 pub fits-exactly : FitsExactly
 unfolding journalStep journalFit answerInBox written
-fits-exactly calls f row e given box w g b l =
+fits-exactly calls f row e asked box w g b l =
     let k : 6 * length (fitted f row box) ≤ length b =
     omega (arith, fitted-length f row box, ap length (listing-is-shown f row .0)) in
-    answered calls (holds f row) (fit given b) e
+    answered calls (holds f row) (fit asked b) e
     ∙ rw (← w, g .no-zero-side, same-of (presentFrame f row) box (g .same-shape), le-ltb (length b) (6 * length (fitted f row box)) k)
 
 -- the i-th of a list of points, scaled
@@ -41,9 +41,9 @@ map-at g (p ∷ ps) zero l = refl
 map-at g (p ∷ ps) (suc i) l = map-at g ps i (omega arith)
 
 pub fit-is-near : FitIsNear
-fit-is-near calls f row e given box v t x y i l =
-    let w : box .width ≤ 4294967295 = rw v (worked-capped (presentFrame f row) given x y .0) in
-    let h : box .height ≤ 4294967295 = rw v (worked-capped (presentFrame f row) given x y .1) in
+fit-is-near calls f row e asked box v t x y i l =
+    let w : box .width ≤ 4294967295 = rw v (worked-capped (presentFrame f row) asked x y .0) in
+    let h : box .height ≤ 4294967295 = rw v (worked-capped (presentFrame f row) asked x y .1) in
     let r = right calls f row e in
     let g = presentFrame f row in
     let p = getD (listing f row) i noPoint in

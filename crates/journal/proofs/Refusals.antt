@@ -210,24 +210,24 @@ written-told f row g ps b c n r e = by (ltb (length b) (6 * length ps)) refl e
     by true p y = same-number (r (ltb-true (length b) (6 * length ps) p)) y
     by false p y = absurd (never _ n y)
 
-fit-told : (f : Focus) (row : List Change) (given : Size) (b : List ℕ) (n : ℕ)
-    → journalFit (holds f row) given b .outcome ≡ refused n → Refuses (holds f row) (fit given b) n
+fit-told : (f : Focus) (row : List Change) (asked : Size) (b : List ℕ) (n : ℕ)
+    → journalFit (holds f row) asked b .outcome ≡ refused n → Refuses (holds f row) (fit asked b) n
 unfolding journalFit answerInBox
-fit-told f row given b n e = by (hasZeroSide box) (sameShape g box) refl refl e
+fit-told f row asked b n e = by (hasZeroSide box) (sameShape g box) refl refl e
   where
     g : Size
     g = presentFrame f row
 
     box : Size
-    box = fitBox f row given
+    box = fitBox f row asked
 
     by : (z t : Bool) → hasZeroSide box ≡ z → sameShape g box ≡ t
         → cond z (no 12 b) (cond t (written f row box (fitted f row box) b) (no 19 b)) .outcome ≡ refused n
-        → Refuses (holds f row) (fit given b) n
+        → Refuses (holds f row) (fit asked b) n
     by true t p q y = same-number (zeroBox p) y
     by false false p q y = same-number (shapesDiffer p (other-told g box q)) y
     by false true p q y =
-        written-told f row box (fitted f row box) b (fit given b) n
+        written-told f row box (fitted f row box) b (fit asked b) n
         (λ l. shortFit (record { no-zero-side = p; same-shape = same-told g box q }) (omega (arith, fitted-length f row box))) y
 
 pub told : (j : Journal) (c : Call) (n : ℕ) → journalStep j c .0 .outcome ≡ refused n → Refuses j c n

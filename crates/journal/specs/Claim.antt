@@ -202,9 +202,9 @@ LoadOnAny =
 abbrev pub FitsExactly : Type 0
 FitsExactly =
     (calls : List Call) (f : Focus) (standing : List Change) → after calls ≡ holds f standing →
-    (given box : Size) → box ≡ fitBox f standing given → GoodBox (presentFrame f standing) box →
+    (asked box : Size) → box ≡ fitBox f standing asked → GoodBox (presentFrame f standing) box →
     (buffer : List ℕ) → 6 * length (shown f standing) ≤ length buffer →
-    answer calls (fit given buffer) ≡
+    answer calls (fit asked buffer) ≡
     ok (head f standing box (fitted f standing box))
     (numbers (fitted f standing box) ++ drop (6 * length (fitted f standing box)) buffer)
 
@@ -217,5 +217,5 @@ pub record FittedNear (f : Focus) (standing : List Change) (box : Size) (i : ℕ
 abbrev pub FitIsNear : Type 0
 FitIsNear =
     (calls : List Call) (f : Focus) (standing : List Change) → after calls ≡ holds f standing →
-    (given box : Size) → box ≡ fitBox f standing given → GoodBox (presentFrame f standing) box →
-    given .width ≤ 4294967295 → given .height ≤ 4294967295 → (i : ℕ) → i < length (listing f standing) → FittedNear f standing box i
+    (asked box : Size) → box ≡ fitBox f standing asked → GoodBox (presentFrame f standing) box →
+    asked .width ≤ 4294967295 → asked .height ≤ 4294967295 → (i : ℕ) → i < length (listing f standing) → FittedNear f standing box i

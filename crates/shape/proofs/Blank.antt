@@ -17,7 +17,7 @@ use Rattle.placing.proofs.Fitting.{some-width, some-height, no-zero-side}
 use Rattle.placing.proofs.Scaling.{no-side, quotient, half, scale-capped}
 use Rattle.shape.specs.Shape.{longestSide, sameShape}
 use Rattle.shape.specs.WorkedBox.{workedSide, workedBox}
-use Rattle.shape.specs.WorkedBoxLaws.{TwoSidesStay, BlankHeight, BlankWidth, BothBlank, WorkedTwice, WorkedSwapped, WorkedTimes, NotCapped, MissingIsNearest, MissingIsZero, ZeroUnderHalf, NotCappedHasShape, InReach, HasShapeInReach, ColumnInReach, ZeroHasShape, rowsAgree, BlankExamples}
+use Rattle.shape.specs.WorkedBoxLaws.{TwoSidesStay, BlankHeight, BlankWidth, BothBlank, WorkedTwice, WorkedSwapped, WorkedTimes, NotCapped, WorkedIsNearest, WorkedIsZero, ZeroUnderHalf, NotCappedHasShape, InReach, HasShapeInReach, ColumnInReach, ZeroHasShape, BlankInNoFrame, rowsAgree, BlankExamples}
 use Rattle.shape.proofs.Shapes.{told-by-products, both-swapped}
 use Rattle.shape.proofs.Times.{scale-times}
 
@@ -36,20 +36,20 @@ scale-cap that given side l = min-eq-right l
 blank-or-not : (side : ℕ) → (side ≡ 0) ⊎ (side ≡ 0 → ⊥)
 blank-or-not side = ⊎-elim (λ t. inl (eqb-true side 0 t)) (λ t. inr (eqb-false side 0 t)) (by-bool (eqb side 0))
 
-module _ (side other that given : ℕ) where
-  pub blank-side : side ≡ 0 → workedSide side other that given ≡ scaleOf that given other
+module _ (own other that given : ℕ) where
+  pub blank-side : own ≡ 0 → workedSide own other that given ≡ scaleOf that given other
   unfolding workedSide
-  blank-side e = rw (eq-eqb side 0 e)
+  blank-side e = rw (eq-eqb own 0 e)
 
-  pub given-side : (side ≡ 0 → ⊥) → workedSide side other that given ≡ side
+  pub given-side : (own ≡ 0 → ⊥) → workedSide own other that given ≡ own
   unfolding workedSide
-  given-side n = rw (ne-eqb side 0 n)
+  given-side n = rw (ne-eqb own 0 n)
 
-  side-capped : side ≤ 4294967295 → workedSide side other that given ≤ 4294967295
+  side-capped : own ≤ 4294967295 → workedSide own other that given ≤ 4294967295
   unfolding workedSide
-  side-capped l = by (eqb side 0)
+  side-capped l = by (eqb own 0)
     where
-      by : (b : Bool) → cond b (scaleOf that given other) side ≤ 4294967295
+      by : (b : Bool) → cond b (scaleOf that given other) own ≤ 4294967295
       by true = scale-capped that given other
       by false = l
 
@@ -142,8 +142,8 @@ worked-times k frame wide high w h = (
 )
 
 -- ---- how long the missing side is
-pub missing-is-nearest : MissingIsNearest
-missing-is-nearest that given side pos l = rw (scale-is that given side l) (half that given side pos)
+pub worked-is-nearest : WorkedIsNearest
+worked-is-nearest that given side pos l = rw (scale-is that given side l) (half that given side pos)
 
 -- a worked side of 0 was not capped
 zero-uncapped : (that given side : ℕ) → scaleOf that given side ≡ 0 → quotient that given side ≡ 0
@@ -176,8 +176,8 @@ module _ (that given side : ℕ) (pos : 0 < given) where
       let m : quotient that given side * given ≤ 4294967295 * given = mul-le-mul-right given l in
       omega arith
 
-pub missing-is-zero : MissingIsZero
-missing-is-zero that given side pos = (less that given side pos, none that given side pos)
+pub worked-is-zero : WorkedIsZero
+worked-is-zero that given side pos = (less that given side pos, none that given side pos)
 
 -- ---- the worked box and the test of shapes, the height blank
 module _ (f : Size) (w : ℕ) (pos : 0 < f .width) where
@@ -256,23 +256,23 @@ zero-is s (inl z) = or-first (eqb (s .width) 0) (eqb (s .height) 0) (eq-eqb (s .
 zero-is s (inr z) = or-second (eqb (s .width) 0) (eqb (s .height) 0) (eq-eqb (s .height) 0 z)
 
 pub zero-under-half : ZeroUnderHalf
-zero-under-half f n wide tall some =
-    let m = missing-is-zero (f .height) (f .width) n wide in
-    let k = missing-is-zero (f .width) (f .height) n tall in
+zero-under-half f n wide tall =
+    let m = worked-is-zero (f .height) (f .width) n wide in
+    let k = worked-is-zero (f .width) (f .height) n tall in
     let b = by n (scaleOf (f .height) (f .width) n) in
     let c = by (scaleOf (f .width) (f .height) n) n in (
       (
-        λ e. m .0 (⊎-elim given (λ z. z) (zero-told b (rw (blank-height f n) at e))),
+        λ e. m .0 (⊎-elim (none-of (f .height) (f .width)) (λ z. z) (zero-told b (rw (blank-height f n) at e))),
         λ u. rw (blank-height f n) (zero-is b (inr (m .1 u))),
       ),
       (
-        λ e. k .0 (⊎-elim (λ z. z) given (zero-told c (rw (blank-width f n) at e))),
+        λ e. k .0 (⊎-elim (λ z. z) (none-of (f .width) (f .height)) (zero-told c (rw (blank-width f n) at e))),
         λ u. rw (blank-width f n) (zero-is c (inl (k .1 u))),
       ),
     )
   where
-    given : {a : ℕ} → n ≡ 0 → a ≡ 0
-    given z = absurd (omega arith)
+    none-of : (that given : ℕ) → n ≡ 0 → scaleOf that given n ≡ 0
+    none-of that given z = ap (scaleOf that given) z ∙ scale-none that given
 
 -- with a zero side on either axis the missing one is not capped
 missing-uncapped : (that given side : ℕ) → (side ≡ 0) ⊎ (scaleOf that given side ≡ 0) → NotCapped that given side
@@ -308,3 +308,26 @@ zero-has-shape f box wide tall e =
   where
     two-sides : (box .width ≡ 0 → ⊥) → (box .height ≡ 0 → ⊥) → hasZeroSide (workedBox f box) ≡ false
     two-sides n m = let k = no-zero-side box (omega (arith, n)) (omega (arith, m)) in ap hasZeroSide (two-sides-stay f box k) ∙ k
+
+-- ---- a frame with a zero side
+scale-of-none : (given side : ℕ) → scaleOf 0 given side ≡ 0
+scale-of-none given side = ⊎-elim some (λ z. sym (no-side 0 given side (omega arith))) (by-order 0 given)
+  where
+    some : 0 < given → scaleOf 0 given side ≡ 0
+    some pos = worked-is-zero 0 given side pos .1 (let z = zero-mul side in omega arith)
+
+-- a zero side on either axis
+scale-in-none : (that given side : ℕ) → (that ≡ 0) ⊎ (given ≡ 0) → scaleOf that given side ≡ 0
+scale-in-none that given side (inl z) = ap (λ (n : ℕ). scaleOf n given side) z ∙ scale-of-none given side
+scale-in-none that given side (inr z) = sym (no-side that given side z)
+
+pub blank-in-no-frame : BlankInNoFrame
+unfolding workedBox
+blank-in-no-frame f box e n =
+    ⊎-elim
+    (λ z. zero-is (workedBox f box)
+    (inl (blank-side (box .width) (box .height) (f .width) (f .height) z ∙ scale-in-none (f .width) (f .height) (box .height) (zero-told f e))))
+    (λ z. zero-is (workedBox f box)
+    (inr (blank-side (box .height) (box .width) (f .height) (f .width) z
+    ∙ scale-in-none (f .height) (f .width) (box .width) (⊎-elim inr inl (zero-told f e)))))
+    (zero-told box n)

@@ -9,7 +9,7 @@ use Rattle.placing.specs.Scale.{scaleOf}
 -- a side of a box beside its other one: as it is, or, where it is blank, "the missing side is scale(that frame side, the given frame side,
 -- the given side)"
 unfoldable pub workedSide : ℕ → ℕ → ℕ → ℕ → ℕ
-workedSide side other that given = cond (eqb side 0) (scaleOf that given other) side
+workedSide own other that given = cond (eqb own 0) (scaleOf that given other) own
 
 -- "A box with one zero side is now answered: the missing side is" worked out from the frame. A box with two sides is as given. Both
 -- zero, both stay so: scale gives 0 of a given side of 0

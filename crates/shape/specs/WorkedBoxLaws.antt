@@ -43,25 +43,25 @@ WorkedTimes =
     → (workedBox frame (by (k * frame .width) 0) ≡ times k frame) × (workedBox frame (by 0 (k * frame .height)) ≡ times k frame)
 
 -- ---- how long the missing side is: `that` and `given` are the frame's sides, `side` is the box's given one
--- scale would give more than 4,294,967,295, at which it ends, or would not
+-- what scale divides out is at most 4,294,967,295, so that its cap does nothing
 abbrev pub NotCapped : ℕ → ℕ → ℕ → Type 0
 NotCapped that given side = (that * side + given / 2) / given ≤ 4294967295
 
--- where it would not, the missing side is off by half a pixel at most
-abbrev pub MissingIsNearest : Type 0
-MissingIsNearest = (that given side : ℕ) → 0 < given → NotCapped that given side → HalfPixel that given side (scaleOf that given side)
+-- then the missing side is off by half a pixel at most
+abbrev pub WorkedIsNearest : Type 0
+WorkedIsNearest = (that given side : ℕ) → 0 < given → NotCapped that given side → HalfPixel that given side (scaleOf that given side)
 
 -- "a worked side of 0": it is less than half a pixel
 abbrev pub UnderHalf : ℕ → ℕ → ℕ → Type 0
 UnderHalf that given side = 2 * (that * side) < given
 
-abbrev pub MissingIsZero : Type 0
-MissingIsZero = (that given side : ℕ) → 0 < given → (scaleOf that given side ≡ 0) ↔ UnderHalf that given side
+abbrev pub WorkedIsZero : Type 0
+WorkedIsZero = (that given side : ℕ) → 0 < given → (scaleOf that given side ≡ 0) ↔ UnderHalf that given side
 
 -- exactly then the worked box has a zero side
 abbrev pub ZeroUnderHalf : Type 0
 ZeroUnderHalf =
-    (frame : Size) (side : ℕ) → 0 < frame .width → 0 < frame .height → 0 < side
+    (frame : Size) (side : ℕ) → 0 < frame .width → 0 < frame .height
     → ((hasZeroSide (workedBox frame (by side 0)) ≡ true) ↔ UnderHalf (frame .height) (frame .width) side)
     × ((hasZeroSide (workedBox frame (by 0 side)) ≡ true) ↔ UnderHalf (frame .width) (frame .height) side)
 
@@ -73,12 +73,11 @@ NotCappedHasShape =
     → (NotCapped (frame .height) (frame .width) side → sameShape frame (workedBox frame (by side 0)) ≡ true)
     × (NotCapped (frame .width) (frame .height) side → sameShape frame (workedBox frame (by 0 side)) ≡ true)
 
--- and exactly where the frame's side that is missing, times the given one, is at most 4,294,967,295 times the frame's other side and one
--- more: the condition that is left of 19
+-- and, no side being over 4,294,967,295, exactly where `that` × `side` is at most 4,294,967,295 × (`given` + 1): what is left of 19
 abbrev pub InReach : ℕ → ℕ → ℕ → Type 0
 InReach that given side = that * side ≤ 4294967295 * (given + 1)
 
--- no side being over 4,294,967,295
+-- both sides are from 1 to 4,294,967,295
 pub record Sides32 (frame : Size) : Type 0 where
   pub wide : 0 < frame .width
   pub high : 0 < frame .height
@@ -97,11 +96,16 @@ ColumnInReach =
     (that given side : ℕ) → 0 < given
     → (that ≤ 4294967295 → side ≤ given → InReach that given side) × (that * side ≤ 4294967295 → InReach that given side)
 
--- 12 and 19 never apply both
+-- on a frame without a zero side 12 and 19 never apply both
 abbrev pub ZeroHasShape : Type 0
 ZeroHasShape =
     (frame box : Size) → 0 < frame .width → 0 < frame .height → hasZeroSide (workedBox frame box) ≡ true
     → sameShape frame (workedBox frame box) ≡ true
+
+-- on a frame with one, which only a sheet made by hand can have, every box with a blank side is 12
+abbrev pub BlankInNoFrame : Type 0
+BlankInNoFrame =
+    (frame box : Size) → hasZeroSide frame ≡ true → hasZeroSide box ≡ true → hasZeroSide (workedBox frame box) ≡ true
 
 -- ---- examples
 pub record Example : Type 0 where
@@ -131,6 +135,9 @@ blankRows =
     row (by 4294967295 1) (by 0 3) (by 4294967295 3) 19 ∷
     row (by 4294967295 1) (by 2147483647 0) (by 2147483647 0) 12 ∷  -- just less than half a pixel
     row (by 4294967295 1) (by 2147483648 0) (by 2147483648 1) 0 ∷
+    row (by 0 5) (by 3 0) (by 3 0) 12 ∷  -- a zero side of the frame, by hand
+    row (by 5 0) (by 3 0) (by 3 0) 12 ∷
+    row (by 0 0) (by 5 7) (by 5 7) 0 ∷
     []
 
 abbrev pub numberFor : Size → Size → ℕ

@@ -42,13 +42,13 @@ pub fn same_shape(frame: Size, picture: Size) -> bool
 
 // A side of a box beside its other one: as it is, or, where it is blank (0), worked out from the frame's two sides: `that` one, which is
 // missing in the box, and the `given` one.
-fn worked_side(side: u32, other: u32, that: u32, given: u32) -> u32
-    ensures { λ r. ⌜ r ≡ workedSide side other that given ⌝ }
+fn worked_side(own: u32, other: u32, that: u32, given: u32) -> u32
+    ensures { λ r. ⌜ r ≡ workedSide own other that given ⌝ }
 {
-    if side == 0 {
+    if own == 0 {
         placing::focus::scale(that, given, other)
     } else {
-        side
+        own
     }
 }
 
