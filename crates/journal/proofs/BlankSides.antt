@@ -1,6 +1,6 @@
 -- Fits with a blank side after any list of calls. The idea: 12 and 19 are told by the worked box, by the cases of the two tests; what the
 -- tests say of a worked box, in numbers, are the laws of `shape`. Assumes nothing.
-use Prim.Native.Nat.{ℕ, _+_, _*_, _≤_, _<_}
+use Prim.Native.Nat.{ℕ, _*_, _≤_}
 use mathlib.Core.Bool.{Bool, true, false, cond, false≢true}
 use mathlib.Core.List.{List}
 use mathlib.Core.Logic.{_↔_, ⊎-elim}
@@ -8,7 +8,7 @@ use mathlib.Core.Path.{_≡_, refl, sym, ap, _∙_}
 use lib.Dec.{ltb}
 use lib.ListN.{length}
 use native.Mathlib.Omega.{arith}
-use Rattle.laws.proofs.Tests.{by-bool, by-order, either}
+use Rattle.laws.proofs.Tests.{by-bool, either}
 use Rattle.reading.specs.Outcome.{refused, numberOf}
 use Rattle.reading.specs.declared.geometry.Size.{Size}
 use Rattle.placing.specs.Fit.{by, hasZeroSide}
@@ -100,10 +100,10 @@ module _ (f : Focus) (row : List Change) (box : Size) (b : List ℕ) where
     λ t. ⊎-elim (λ z. absurd (false≢true (sym t ∙ k z))) (λ (z : hasZeroSide box ≡ false). rw (z, t)) (by-bool (hasZeroSide box)),
   )
 
--- what is not so is otherwise
-not-so : (t : Bool) (a b : ℕ) → (t ≡ true) ↔ (a ≤ b) → (t ≡ false) ↔ (b < a)
-not-so true a b k = (λ e. absurd (false≢true (sym e)), λ l. absurd (omega (arith, k .0 refl)))
-not-so false a b k = (λ e. ⊎-elim (λ l. l) (λ l. absurd (false≢true (k .1 l))) (by-order b a), λ l. refl)
+-- a test that tells whether something holds tells whether it does not
+not-so : {A : Type 0} (t : Bool) → (t ≡ true) ↔ A → (t ≡ false) ↔ (A → ⊥)
+not-so true k = (λ e. absurd (false≢true (sym e)), λ n. absurd (n (k .0 refl)))
+not-so false k = (λ e a. false≢true (k .1 a), λ n. refl)
 
 -- a fit of a box whose worked one the tests judge by these sides
 refused-by : (calls : List Call) (f : Focus) (row : List Change) → after calls ≡ holds f row → (box : Size) (b : List ℕ) (that given side : ℕ)
@@ -114,7 +114,7 @@ refused-by calls f row e box b that given side u r =
     let o = on-present calls f row e in
     let t = is-twelve f row (fitBox f row box) b in
     let n = is-nineteen f row (fitBox f row box) b (zero-has-shape (presentFrame f row) box (o .0) (o .1)) in
-    let s = not-so (sameShape (presentFrame f row) (fitBox f row box)) (that * side) (4294967295 * (given + 1)) r in
+    let s = not-so (sameShape (presentFrame f row) (fitBox f row box)) r in
     rw (fit-is calls f row e box b) (record {
       zero-side = (λ q. u .0 (t .0 q), λ l. t .1 (u .1 l));
       other-shape = (λ q. s .0 (n .0 q), λ l. n .1 (s .1 l));
@@ -153,7 +153,7 @@ answered-by : (calls : List Call) (f : Focus) (row : List Change) → after call
     → answer calls (fit asked b) ≡ written f row box (fitted f row box) b
 unfolding answerInBox
 answered-by calls f row e asked box w that given side i u r b =
-    let z : hasZeroSide box ≡ false = ⊎-elim (λ t. absurd (omega (arith, u .0 t, i .half))) (λ t. t) (by-bool (hasZeroSide box)) in
+    let z : hasZeroSide box ≡ false = ⊎-elim (λ t. absurd (i .half (u .0 t))) (λ t. t) (by-bool (hasZeroSide box)) in
     fit-is calls f row e asked b ∙ rw (w, z, r .1 (i .reach))
 
 pub blank-height-answered : BlankHeightAnswered
@@ -180,4 +180,4 @@ columns-keep-shape calls f row e a d n l c b q =
     let s = sides calls f row e a d in
     let r = column-in-reach (g .height) (g .width) n (s .wide) in
     let i : InReach (g .height) (g .width) n = ⊎-elim (λ w. r .0 d w) (λ p. r .1 p) c in
-    omega (arith, i, height-refused calls f row e a d n l b .other-shape .0 q)
+    height-refused calls f row e a d n l b .other-shape .0 q i

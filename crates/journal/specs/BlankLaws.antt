@@ -1,6 +1,6 @@
 -- Laws of fits with 02's blank side, after any list of calls: a box with two sides answers as before, one with a blank side as the box that it
 -- stands for; exactly when it is refused, and what is answered else. proofs/BlankSides.antt has the proofs.
-use Prim.Native.Nat.{ℕ, _+_, _*_, _≤_, _<_}
+use Prim.Native.Nat.{ℕ, _*_, _≤_}
 use mathlib.Core.Bool.{false}
 use mathlib.Core.List.{List}
 use mathlib.Core.Logic.{_↔_, _⊎_}
@@ -11,6 +11,7 @@ use Rattle.placing.specs.Fit.{by, hasZeroSide}
 use Rattle.placing.specs.Load.{Focus}
 use Rattle.placing.specs.Scale.{scaleOf}
 use Rattle.shape.specs.ShapeLaws.{times}
+use Rattle.shape.specs.WorkedBoxLaws.{UnderHalf, InReach}
 use Rattle.sheet.specs.declared.Sheet.{Sheet}
 use Rattle.sheet.specs.Lists.{outcomeInBox, bufferInBox, fitOutcome, fitBuffer}
 use Rattle.journal.specs.Journal.{Change, holds, presentFrame, fitBox, fitted, no, written, answerInBox}
@@ -50,11 +51,11 @@ BlankTimes =
     × (answer calls (fit (by 0 (k * presentFrame f standing .height)) buffer) ≡ answer calls (fit (times k (presentFrame f standing)) buffer))
 
 -- ---- when a box with one side is refused
--- `that` and `given` are the present frame's sides, `side` is the box's given one. 12: the missing side is less than half a pixel; 19: `that` ×
--- `side` is over 4,294,967,295 × (`given` + 1)
+-- `that` and `given` are the present frame's sides, `side` is the box's given one. 12: the missing side is less than half a pixel; 19: it is not
+-- in reach, `that` × `side` is over 4,294,967,295 × (`given` + 1)
 pub record BlankRefused (that given side : ℕ) (outcome : Outcome (List ℕ)) : Type 0 where
-  pub zero-side : (outcome ≡ refused 12) ↔ (2 * (that * side) < given)
-  pub other-shape : (outcome ≡ refused 19) ↔ (4294967295 * (given + 1) < that * side)
+  pub zero-side : (outcome ≡ refused 12) ↔ UnderHalf that given side
+  pub other-shape : (outcome ≡ refused 19) ↔ (InReach that given side → ⊥)
 
 -- the height blank, then the width. No side of box or frame is over 4,294,967,295: a 32-bit number is no more
 abbrev pub BlankHeightRefused : Type 0
@@ -74,8 +75,8 @@ BlankWidthRefused =
 -- ---- "A box with one zero side is now answered"
 -- neither 12 nor 19
 pub record InBounds (that given side : ℕ) : Type 0 where
-  pub half : given ≤ 2 * (that * side)
-  pub reach : that * side ≤ 4294967295 * (given + 1)
+  pub half : UnderHalf that given side → ⊥
+  pub reach : InReach that given side
 
 -- then the points are written, or 13 is answered, as in the box whose missing side is "scale(that frame side, the given frame side, the given
 -- side)": the height, then the width
