@@ -16,14 +16,14 @@ use Rattle.placing.specs.Load.{Focus}
 use Rattle.placing.specs.declared.focus.FocusPoint.{FocusPoint}
 use Rattle.shape.specs.Shape.{sameShape}
 use Rattle.shape.specs.ShapeLaws.{times}
-use Rattle.shape.specs.WorkedBoxLaws.{UnderHalf, InReach, Sides32}
-use Rattle.shape.proofs.Blank.{two-sides-stay, worked-twice, both-blank, blank-height, blank-width, worked-times, zero-under-half, has-shape-in-reach, column-in-reach, zero-has-shape}
+use Rattle.shape.specs.WorkedBoxLaws.{UnderHalf, InReach}
+use Rattle.shape.proofs.Blank.{two-sides-stay, worked-twice, both-blank, blank-height, blank-width, worked-times, zero-under-half, not-capped-has-shape, has-shape-in-reach, not-extreme-not-capped, zero-has-shape}
 use Rattle.sheet.specs.Sheet.{presentFrame as sheetFrame}
 use Rattle.sheet.specs.Lists.{outcomeInBox, bufferInBox, fitOutcome, fitBuffer}
 use Rattle.journal.specs.Journal.{Change, holds, presentFrame, fitBox, fitted, Answer, no, written, answerInBox, journalFit}
 use Rattle.journal.specs.Calls.{Call, fit, journalStep}
 use Rattle.journal.specs.Claim.{after, answer}
-use Rattle.journal.specs.BlankLaws.{TwoSidesOnAny, TwoSidesAsGiven, FitsAsWorked, BothBlankRefused, BlankTimes, BlankRefused, BlankHeightRefused, BlankWidthRefused, InBounds, BlankHeightAnswered, BlankWidthAnswered, ColumnsKeepShape}
+use Rattle.journal.specs.BlankLaws.{TwoSidesOnAny, TwoSidesAsGiven, FitsAsWorked, BothBlankRefused, BlankTimes, BlankRefused, BlankHeightRefused, BlankWidthRefused, NotCappedKeepsShape, GridsKeepShape, InBounds, BlankHeightAnswered, BlankWidthAnswered}
 use Rattle.journal.proofs.Answers.{answered}
 use Rattle.journal.proofs.Boxes.{on-present}
 
@@ -120,30 +120,38 @@ refused-by calls f row e box b that given side u r =
       other-shape = (λ q. s .0 (n .0 q), λ l. n .1 (s .1 l));
     })
 
-module _ (calls : List Call) (f : Focus) (row : List Change) (e : after calls ≡ holds f row)
-    (a : presentFrame f row .width ≤ 4294967295) (d : presentFrame f row .height ≤ 4294967295) where
-  sides : Sides32 (presentFrame f row)
-  sides = let o = on-present calls f row e in record { wide = o .0; high = o .1; across = a; down = d }
-
-  height-refused : (width : ℕ) → width ≤ 4294967295 → (b : List ℕ)
-      → BlankRefused (presentFrame f row .height) (presentFrame f row .width) width (answer calls (fit (by width 0) b) .outcome)
-  height-refused n l b =
-      let g = presentFrame f row in
-      refused-by calls f row e (by n 0) b (g .height) (g .width) n
-      (zero-under-half g n (sides .wide) (sides .high) .0) (has-shape-in-reach g n sides l .0)
-
-  width-refused : (height : ℕ) → height ≤ 4294967295 → (b : List ℕ)
-      → BlankRefused (presentFrame f row .width) (presentFrame f row .height) height (answer calls (fit (by 0 height) b) .outcome)
-  width-refused n l b =
-      let g = presentFrame f row in
-      refused-by calls f row e (by 0 n) b (g .width) (g .height) n
-      (zero-under-half g n (sides .wide) (sides .high) .1) (has-shape-in-reach g n sides l .1)
-
 pub blank-height-refused : BlankHeightRefused
-blank-height-refused = height-refused
+blank-height-refused calls f row e n b =
+    let g = presentFrame f row in
+    let o = on-present calls f row e in
+    refused-by calls f row e (by n 0) b (g .height) (g .width) n
+    (zero-under-half g n (o .0) (o .1) .0) (has-shape-in-reach g n (o .0) (o .1) .0)
 
 pub blank-width-refused : BlankWidthRefused
-blank-width-refused = width-refused
+blank-width-refused calls f row e n b =
+    let g = presentFrame f row in
+    let o = on-present calls f row e in
+    refused-by calls f row e (by 0 n) b (g .width) (g .height) n
+    (zero-under-half g n (o .0) (o .1) .1) (has-shape-in-reach g n (o .0) (o .1) .1)
+
+pub not-capped-keeps-shape : NotCappedKeepsShape
+not-capped-keeps-shape calls f row e n b =
+    let g = presentFrame f row in
+    let o = on-present calls f row e in
+    let s = not-capped-has-shape g n (o .0) (o .1) in
+    let r = has-shape-in-reach g n (o .0) (o .1) in (
+      λ c q. blank-height-refused calls f row e n b .other-shape .0 q (r .0 .0 (s .0 c)),
+      λ c q. blank-width-refused calls f row e n b .other-shape .0 q (r .1 .0 (s .1 c)),
+    )
+
+pub grids-keep-shape : GridsKeepShape
+grids-keep-shape calls f row e n b =
+    let g = presentFrame f row in
+    let o = on-present calls f row e in
+    let k = not-capped-keeps-shape calls f row e n b in (
+      λ x. k .0 (not-extreme-not-capped (g .height) (g .width) n (o .0) x),
+      λ x. k .1 (not-extreme-not-capped (g .width) (g .height) n (o .1) x),
+    )
 
 -- ---- a box that is neither
 -- a fit whose worked box the tests accept by these sides
@@ -157,27 +165,19 @@ answered-by calls f row e asked box w that given side i u r b =
     fit-is calls f row e asked b ∙ rw (w, z, r .1 (i .reach))
 
 pub blank-height-answered : BlankHeightAnswered
-blank-height-answered calls f row e a d n m l i k b =
+blank-height-answered calls f row e n m i k b =
     let g = presentFrame f row in
-    let s = sides calls f row e a d in
+    let o = on-present calls f row e in
     let w : fitBox f row (by n 0) ≡ by n m = blank-height g n ∙ ap (by n) (sym k) in
-    let u = zero-under-half g n (s .wide) (s .high) .0 in
-    let r = has-shape-in-reach g n s l .0 in
+    let u = zero-under-half g n (o .0) (o .1) .0 in
+    let r = has-shape-in-reach g n (o .0) (o .1) .0 in
     answered-by calls f row e (by n 0) (by n m) w (g .height) (g .width) n i (rw w at u) (rw w at r) b
 
 pub blank-width-answered : BlankWidthAnswered
-blank-width-answered calls f row e a d m n l i k b =
+blank-width-answered calls f row e m n i k b =
     let g = presentFrame f row in
-    let s = sides calls f row e a d in
+    let o = on-present calls f row e in
     let w : fitBox f row (by 0 n) ≡ by m n = blank-width g n ∙ ap (λ (x : ℕ). by x n) (sym k) in
-    let u = zero-under-half g n (s .wide) (s .high) .1 in
-    let r = has-shape-in-reach g n s l .1 in
+    let u = zero-under-half g n (o .0) (o .1) .1 in
+    let r = has-shape-in-reach g n (o .0) (o .1) .1 in
     answered-by calls f row e (by 0 n) (by m n) w (g .width) (g .height) n i (rw w at u) (rw w at r) b
-
-pub columns-keep-shape : ColumnsKeepShape
-columns-keep-shape calls f row e a d n l c b q =
-    let g = presentFrame f row in
-    let s = sides calls f row e a d in
-    let r = column-in-reach (g .height) (g .width) n (s .wide) in
-    let i : InReach (g .height) (g .width) n = ⊎-elim (λ w. r .0 d w) (λ p. r .1 p) c in
-    height-refused calls f row e a d n l b .other-shape .0 q i

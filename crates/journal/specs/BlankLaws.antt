@@ -3,7 +3,7 @@
 use Prim.Native.Nat.{ℕ, _*_, _≤_}
 use mathlib.Core.Bool.{false}
 use mathlib.Core.List.{List}
-use mathlib.Core.Logic.{_↔_, _⊎_}
+use mathlib.Core.Logic.{_↔_}
 use mathlib.Core.Path.{_≡_}
 use Rattle.reading.specs.Outcome.{Outcome, refused}
 use Rattle.reading.specs.declared.geometry.Size.{Size}
@@ -11,7 +11,7 @@ use Rattle.placing.specs.Fit.{by, hasZeroSide}
 use Rattle.placing.specs.Load.{Focus}
 use Rattle.placing.specs.Scale.{scaleOf}
 use Rattle.shape.specs.ShapeLaws.{times}
-use Rattle.shape.specs.WorkedBoxLaws.{UnderHalf, InReach}
+use Rattle.shape.specs.WorkedBoxLaws.{NotCapped, UnderHalf, InReach, NotExtreme}
 use Rattle.sheet.specs.declared.Sheet.{Sheet}
 use Rattle.sheet.specs.Lists.{outcomeInBox, bufferInBox, fitOutcome, fitBuffer}
 use Rattle.journal.specs.Journal.{Change, holds, presentFrame, fitBox, fitted, no, written, answerInBox}
@@ -52,25 +52,43 @@ BlankTimes =
 
 -- ---- when a box with one side is refused
 -- `that` and `given` are the present frame's sides, `side` is the box's given one. 12: the missing side is less than half a pixel; 19: it is not
--- in reach, `that` × `side` is over 4,294,967,295 × (`given` + 1)
+-- in reach
 pub record BlankRefused (that given side : ℕ) (outcome : Outcome (List ℕ)) : Type 0 where
   pub zero-side : (outcome ≡ refused 12) ↔ UnderHalf that given side
   pub other-shape : (outcome ≡ refused 19) ↔ (InReach that given side → ⊥)
 
--- the height blank, then the width. No side of box or frame is over 4,294,967,295: a 32-bit number is no more
+-- the height blank, then the width
 abbrev pub BlankHeightRefused : Type 0
 BlankHeightRefused =
     (calls : List Call) (f : Focus) (standing : List Change) → after calls ≡ holds f standing
-    → presentFrame f standing .width ≤ 4294967295 → presentFrame f standing .height ≤ 4294967295
-    → (width : ℕ) → width ≤ 4294967295 → (buffer : List ℕ)
+    → (width : ℕ) (buffer : List ℕ)
     → BlankRefused (presentFrame f standing .height) (presentFrame f standing .width) width (answer calls (fit (by width 0) buffer) .outcome)
 
 abbrev pub BlankWidthRefused : Type 0
 BlankWidthRefused =
     (calls : List Call) (f : Focus) (standing : List Change) → after calls ≡ holds f standing
-    → presentFrame f standing .width ≤ 4294967295 → presentFrame f standing .height ≤ 4294967295
-    → (height : ℕ) → height ≤ 4294967295 → (buffer : List ℕ)
+    → (height : ℕ) (buffer : List ℕ)
     → BlankRefused (presentFrame f standing .width) (presentFrame f standing .height) height (answer calls (fit (by 0 height) buffer) .outcome)
+
+-- a missing side that is not capped never meets 19: the height, then the width
+abbrev pub NotCappedKeepsShape : Type 0
+NotCappedKeepsShape =
+    (calls : List Call) (f : Focus) (standing : List Change) → after calls ≡ holds f standing
+    → (side : ℕ) (buffer : List ℕ)
+    → (NotCapped (presentFrame f standing .height) (presentFrame f standing .width) side
+    → answer calls (fit (by side 0) buffer) .outcome ≡ refused 19 → ⊥)
+    × (NotCapped (presentFrame f standing .width) (presentFrame f standing .height) side
+    → answer calls (fit (by 0 side) buffer) .outcome ≡ refused 19 → ⊥)
+
+-- so a grid of columns, or of rows, never meets it, unless they are extreme beside the present frame
+abbrev pub GridsKeepShape : Type 0
+GridsKeepShape =
+    (calls : List Call) (f : Focus) (standing : List Change) → after calls ≡ holds f standing
+    → (side : ℕ) (buffer : List ℕ)
+    → (NotExtreme (presentFrame f standing .height) (presentFrame f standing .width) side
+    → answer calls (fit (by side 0) buffer) .outcome ≡ refused 19 → ⊥)
+    × (NotExtreme (presentFrame f standing .width) (presentFrame f standing .height) side
+    → answer calls (fit (by 0 side) buffer) .outcome ≡ refused 19 → ⊥)
 
 -- ---- "A box with one zero side is now answered"
 -- neither 12 nor 19
@@ -83,8 +101,7 @@ pub record InBounds (that given side : ℕ) : Type 0 where
 abbrev pub BlankHeightAnswered : Type 0
 BlankHeightAnswered =
     (calls : List Call) (f : Focus) (standing : List Change) → after calls ≡ holds f standing
-    → presentFrame f standing .width ≤ 4294967295 → presentFrame f standing .height ≤ 4294967295
-    → (width height : ℕ) → width ≤ 4294967295 → InBounds (presentFrame f standing .height) (presentFrame f standing .width) width
+    → (width height : ℕ) → InBounds (presentFrame f standing .height) (presentFrame f standing .width) width
     → height ≡ scaleOf (presentFrame f standing .height) (presentFrame f standing .width) width
     → (buffer : List ℕ)
     → answer calls (fit (by width 0) buffer) ≡ written f standing (by width height) (fitted f standing (by width height)) buffer
@@ -92,18 +109,7 @@ BlankHeightAnswered =
 abbrev pub BlankWidthAnswered : Type 0
 BlankWidthAnswered =
     (calls : List Call) (f : Focus) (standing : List Change) → after calls ≡ holds f standing
-    → presentFrame f standing .width ≤ 4294967295 → presentFrame f standing .height ≤ 4294967295
-    → (width height : ℕ) → height ≤ 4294967295 → InBounds (presentFrame f standing .width) (presentFrame f standing .height) height
+    → (width height : ℕ) → InBounds (presentFrame f standing .width) (presentFrame f standing .height) height
     → width ≡ scaleOf (presentFrame f standing .width) (presentFrame f standing .height) height
     → (buffer : List ℕ)
     → answer calls (fit (by 0 height) buffer) ≡ written f standing (by width height) (fitted f standing (by width height)) buffer
-
--- so a grid of columns never meets 19 if no column is wider than the present frame; nor if the frame's height times the column's width is at
--- most 4,294,967,295, as it is where both are of 16 bits
-abbrev pub ColumnsKeepShape : Type 0
-ColumnsKeepShape =
-    (calls : List Call) (f : Focus) (standing : List Change) → after calls ≡ holds f standing
-    → presentFrame f standing .width ≤ 4294967295 → presentFrame f standing .height ≤ 4294967295
-    → (width : ℕ) → width ≤ 4294967295
-    → (width ≤ presentFrame f standing .width) ⊎ (presentFrame f standing .height * width ≤ 4294967295)
-    → (buffer : List ℕ) → answer calls (fit (by width 0) buffer) .outcome ≡ refused 19 → ⊥

@@ -15,9 +15,9 @@ use Rattle.placing.specs.Fit.{by, swapped, hasZeroSide, sameSize}
 use Rattle.placing.specs.Scale.{scaleOf}
 use Rattle.placing.proofs.Fitting.{some-width, some-height, no-zero-side}
 use Rattle.placing.proofs.Scaling.{no-side, quotient, half, scale-capped}
-use Rattle.shape.specs.Shape.{longestSide, sameShape}
+use Rattle.shape.specs.Shape.{sameShape}
 use Rattle.shape.specs.WorkedBox.{workedSide, workedBox}
-use Rattle.shape.specs.WorkedBoxLaws.{TwoSidesStay, BlankHeight, BlankWidth, BothBlank, WorkedTwice, WorkedSwapped, WorkedTimes, NotCapped, WorkedIsNearest, WorkedIsZero, ZeroUnderHalf, NotCappedHasShape, InReach, HasShapeInReach, ColumnInReach, ZeroHasShape, BlankInNoFrame, rowsAgree, BlankExamples}
+use Rattle.shape.specs.WorkedBoxLaws.{TwoSidesStay, BlankHeight, BlankWidth, BothBlank, WorkedTwice, WorkedSwapped, WorkedTimes, NotCapped, WorkedIsNearest, WorkedIsZero, ZeroUnderHalf, NotCappedHasShape, InReach, HasShapeInReach, InReachOf32, NotExtremeNotCapped, ZeroHasShape, BlankInNoFrame, rowsAgree, BlankExamples}
 use Rattle.shape.proofs.Shapes.{told-by-products, both-swapped}
 use Rattle.shape.proofs.Times.{scale-times}
 
@@ -170,8 +170,8 @@ module _ (that given side : ℕ) (pos : 0 < given) where
       scale-is that given side (omega (arith, q)) ∙ q
 
   -- what is not capped is in reach
-  reached : given ≤ 4294967295 → NotCapped that given side → InReach that given side
-  reached g l =
+  reached : NotCapped that given side → InReach that given side
+  reached l =
       let h = high in
       let m : quotient that given side * given ≤ 4294967295 * given = mul-le-mul-right given l in
       omega arith
@@ -190,31 +190,24 @@ module _ (f : Size) (w : ℕ) (pos : 0 < f .width) where
       rw (blank-height f w, scale-is (f .height) (f .width) w l)
       (told-by-products f (by w q) .1 (record { above = omega arith; below = omega arith }))
 
-  module _ (a : f .width ≤ 4294967295) (b : f .height ≤ 4294967295) (c : w ≤ 4294967295) (o : 4294967295 < quotient (f .height) (f .width) w) where
-    longest-is : longestSide f (by w 4294967295) ≡ 4294967295
-    longest-is = omega arith
-
+  module _ (o : 4294967295 < quotient (f .height) (f .width) w) where
     capped-box : workedBox f (by w 0) ≡ by w 4294967295
     capped-box = blank-height f w ∙ ap (by w) (scale-cap (f .height) (f .width) w (omega (arith, o)))
 
     capped-reached : sameShape f (by w 4294967295) ≡ true → InReach (f .height) (f .width) w
-    capped-reached e = omega (arith, told-by-products f (by w 4294967295) .0 e .below, longest-is)
+    capped-reached e = omega (arith, told-by-products f (by w 4294967295) .0 e .below)
 
     capped-shape : InReach (f .height) (f .width) w → sameShape f (by w 4294967295) ≡ true
     capped-shape r =
         let lo = low (f .height) (f .width) w pos in
         let m : 4294967296 * f .width ≤ quotient (f .height) (f .width) w * f .width = mul-le-mul-right (f .width) (omega (arith, o)) in
-        told-by-products f (by w 4294967295) .1 (record { above = omega arith; below = omega (arith, longest-is) })
+        told-by-products f (by w 4294967295) .1 (record { above = omega arith; below = omega arith })
 
-  in-reach : f .width ≤ 4294967295 → f .height ≤ 4294967295 → w ≤ 4294967295
-      → (sameShape f (workedBox f (by w 0)) ≡ true) ↔ InReach (f .height) (f .width) w
-  in-reach a b c =
+  in-reach : (sameShape f (workedBox f (by w 0)) ≡ true) ↔ InReach (f .height) (f .width) w
+  in-reach =
       ⊎-elim
-      (λ o. (
-        λ e. capped-reached a b c o (rw (capped-box a b c o) at e),
-        λ r. rw (capped-box a b c o) (capped-shape a b c o r),
-      ))
-      (λ l. (λ e. reached (f .height) (f .width) w pos a l, λ r. uncapped-shape l))
+      (λ o. (λ e. capped-reached o (rw (capped-box o) at e), λ r. rw (capped-box o) (capped-shape o r)))
+      (λ l. (λ e. reached (f .height) (f .width) w pos l, λ r. uncapped-shape l))
       (by-order 4294967295 (quotient (f .height) (f .width) w))
 
 -- on its side
@@ -229,17 +222,27 @@ not-capped-has-shape f n wide high = (
 )
 
 pub has-shape-in-reach : HasShapeInReach
-has-shape-in-reach f n s l = (
-  in-reach f n (s .wide) (s .across) (s .down) l,
-  let i = in-reach (swapped f) n (s .high) (s .down) (s .across) l in
-      (λ e. i .0 (shape-swapped f n ∙ e), λ r. sym (shape-swapped f n) ∙ i .1 r),
+has-shape-in-reach f n wide high = (
+  in-reach f n wide,
+  let i = in-reach (swapped f) n high in (λ e. i .0 (shape-swapped f n ∙ e), λ r. sym (shape-swapped f n) ∙ i .1 r),
 )
 
-pub column-in-reach : ColumnInReach
-column-in-reach that given side pos = (
-  λ t s. let m : that * side ≤ 4294967295 * given = mul-le-mul t s in omega arith,
-  λ p. omega arith,
-)
+pub in-reach-of-32 : InReachOf32
+in-reach-of-32 that given side t g s = (λ r. omega arith, λ r. omega arith)
+
+-- ---- when a side is not capped
+quotient-small : (that given side : ℕ) → 0 < given → that * side ≤ 4294967295 * given → NotCapped that given side
+quotient-small that given side pos l = ⊎-elim (λ o. absurd (over o)) (λ n. n) (by-order 4294967295 (quotient that given side))
+  where
+    over : 4294967295 < quotient that given side → ⊥
+    over o =
+        let lo = low that given side pos in
+        let m : 4294967296 * given ≤ quotient that given side * given = mul-le-mul-right given (omega (arith, o)) in
+        omega arith
+
+pub not-extreme-not-capped : NotExtremeNotCapped
+not-extreme-not-capped that given side pos n =
+    quotient-small that given side pos (⊎-elim (λ b. mul-le-mul (b .0) (b .1)) (λ p. omega arith) n)
 
 -- ---- a worked side of 0
 zero-told : (s : Size) → hasZeroSide s ≡ true → (s .width ≡ 0) ⊎ (s .height ≡ 0)

@@ -2,14 +2,14 @@
 use Prim.Native.Nat.{ℕ, _+_, _*_, _/_, _≤_, _<_}
 use mathlib.Core.Bool.{Bool, true, false, _&&_, cond}
 use mathlib.Core.List.{List, [], _∷_}
-use mathlib.Core.Logic.{_↔_}
+use mathlib.Core.Logic.{_↔_, _⊎_}
 use mathlib.Core.Path.{_≡_}
 use lib.Dec.{eqb}
 use Rattle.reading.specs.declared.geometry.Size.{Size}
 use Rattle.placing.specs.Fit.{by, swapped, hasZeroSide, sameSize}
 use Rattle.placing.specs.FittingLaws.{HalfPixel}
 use Rattle.placing.specs.Scale.{scaleOf}
-use Rattle.shape.specs.Shape.{sameShape}
+use Rattle.shape.specs.Shape.{longestSide, sameShape}
 use Rattle.shape.specs.ShapeLaws.{times}
 use Rattle.shape.specs.WorkedBox.{workedBox}
 
@@ -73,28 +73,31 @@ NotCappedHasShape =
     → (NotCapped (frame .height) (frame .width) side → sameShape frame (workedBox frame (by side 0)) ≡ true)
     × (NotCapped (frame .width) (frame .height) side → sameShape frame (workedBox frame (by 0 side)) ≡ true)
 
--- and, no side being over 4,294,967,295, exactly where `that` × `side` is at most 4,294,967,295 × (`given` + 1): what is left of 19
+-- and, capped or not, exactly where `that` × `side` is over 4,294,967,295 × `given` by no more than the longest of the frame's two sides,
+-- `side` and 4,294,967,295: what is left of 19
 abbrev pub InReach : ℕ → ℕ → ℕ → Type 0
-InReach that given side = that * side ≤ 4294967295 * (given + 1)
-
--- both sides are from 1 to 4,294,967,295
-pub record Sides32 (frame : Size) : Type 0 where
-  pub wide : 0 < frame .width
-  pub high : 0 < frame .height
-  pub across : frame .width ≤ 4294967295
-  pub down : frame .height ≤ 4294967295
+InReach that given side = that * side ≤ 4294967295 * given + longestSide (by given that) (by side 4294967295)
 
 abbrev pub HasShapeInReach : Type 0
 HasShapeInReach =
-    (frame : Size) (side : ℕ) → Sides32 frame → side ≤ 4294967295
+    (frame : Size) (side : ℕ) → 0 < frame .width → 0 < frame .height
     → ((sameShape frame (workedBox frame (by side 0)) ≡ true) ↔ InReach (frame .height) (frame .width) side)
     × ((sameShape frame (workedBox frame (by 0 side)) ≡ true) ↔ InReach (frame .width) (frame .height) side)
 
--- so a column that is no wider than the frame, or for which 32 bits hold the product, is in reach
-abbrev pub ColumnInReach : Type 0
-ColumnInReach =
-    (that given side : ℕ) → 0 < given
-    → (that ≤ 4294967295 → side ≤ given → InReach that given side) × (that * side ≤ 4294967295 → InReach that given side)
+-- no side of 32 bits is longer than 4,294,967,295: then it is where `that` × `side` is at most 4,294,967,295 × (`given` + 1)
+abbrev pub InReachOf32 : Type 0
+InReachOf32 =
+    (that given side : ℕ) → that ≤ 4294967295 → given ≤ 4294967295 → side ≤ 4294967295
+    → InReach that given side ↔ (that * side ≤ 4294967295 * (given + 1))
+
+-- a column is not extreme if it is no wider than a frame whose height is of 32 bits, or if 32 bits hold the height times the column's
+-- width, as they do where both are of 16 bits; a row likewise
+abbrev pub NotExtreme : ℕ → ℕ → ℕ → Type 0
+NotExtreme that given side = ((that ≤ 4294967295) × (side ≤ given)) ⊎ (that * side ≤ 4294967295)
+
+-- its missing side is not capped
+abbrev pub NotExtremeNotCapped : Type 0
+NotExtremeNotCapped = (that given side : ℕ) → 0 < given → NotExtreme that given side → NotCapped that given side
 
 -- on a frame without a zero side 12 and 19 never apply both
 abbrev pub ZeroHasShape : Type 0
