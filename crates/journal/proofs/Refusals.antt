@@ -224,11 +224,11 @@ fit-told f row asked b n e = by (hasZeroSide box) (sameShape g box) refl refl e
     by : (z t : Bool) → hasZeroSide box ≡ z → sameShape g box ≡ t
         → cond z (no 12 b) (cond t (written f row box (fitted f row box) b) (no 19 b)) .outcome ≡ refused n
         → Refuses (holds f row) (fit asked b) n
-    by true t p q y = same-number (zeroBox p) y
-    by false false p q y = same-number (shapesDiffer p (other-told g box q)) y
+    by true t p q y = same-number (zeroBox {f = f} {box = asked} p) y
+    by false false p q y = same-number (shapesDiffer {f = f} {box = asked} p (other-told g box q)) y
     by false true p q y =
         written-told f row box (fitted f row box) b (fit asked b) n
-        (λ l. shortFit (record { no-zero-side = p; same-shape = same-told g box q }) (omega (arith, fitted-length f row box))) y
+        (λ l. shortFit {f = f} {box = asked} (record { no-zero-side = p; same-shape = same-told g box q }) (omega (arith, fitted-length f row box))) y
 
 pub told : (j : Journal) (c : Call) (n : ℕ) → journalStep j c .0 .outcome ≡ refused n → Refuses j c n
 unfolding journalStep journalChange journalBack journalList
