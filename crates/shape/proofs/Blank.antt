@@ -169,6 +169,13 @@ module _ (that given side : ℕ) (pos : 0 < given) where
       let q : quotient that given side ≡ 0 = div-eq-of-lt (omega arith) in
       scale-is that given side (omega (arith, q)) ∙ q
 
+  -- what is capped has a product of 4,294,967,296 times the given side, or half that side less
+  past : 4294967295 < quotient that given side → 4294967296 * given ≤ that * side + given / 2
+  past o =
+      let l = low in
+      let m : 4294967296 * given ≤ quotient that given side * given = mul-le-mul-right given (omega (arith, o)) in
+      omega arith
+
   -- what is not capped is in reach
   reached : NotCapped that given side → InReach that given side
   reached l =
@@ -199,8 +206,7 @@ module _ (f : Size) (w : ℕ) (pos : 0 < f .width) where
 
     capped-shape : InReach (f .height) (f .width) w → sameShape f (by w 4294967295) ≡ true
     capped-shape r =
-        let lo = low (f .height) (f .width) w pos in
-        let m : 4294967296 * f .width ≤ quotient (f .height) (f .width) w * f .width = mul-le-mul-right (f .width) (omega (arith, o)) in
+        let p = past (f .height) (f .width) w pos o in
         told-by-products f (by w 4294967295) .1 (record { above = omega arith; below = omega arith })
 
   in-reach : (sameShape f (workedBox f (by w 0)) ≡ true) ↔ InReach (f .height) (f .width) w
@@ -232,13 +238,11 @@ in-reach-of-32 that given side t g s = (λ r. omega arith, λ r. omega arith)
 
 -- ---- when a side is not capped
 quotient-small : (that given side : ℕ) → 0 < given → that * side ≤ 4294967295 * given → NotCapped that given side
-quotient-small that given side pos l = ⊎-elim (λ o. absurd (over o)) (λ n. n) (by-order 4294967295 (quotient that given side))
-  where
-    over : 4294967295 < quotient that given side → ⊥
-    over o =
-        let lo = low that given side pos in
-        let m : 4294967296 * given ≤ quotient that given side * given = mul-le-mul-right given (omega (arith, o)) in
-        omega arith
+quotient-small that given side pos l =
+    ⊎-elim
+    (λ o. let p = past that given side pos o in absurd (omega arith))
+    (λ n. n)
+    (by-order 4294967295 (quotient that given side))
 
 pub not-extreme-not-capped : NotExtremeNotCapped
 not-extreme-not-capped that given side pos n =
