@@ -1,12 +1,11 @@
 /*
- * The focus points of Nikon photographs: one photograph, its report as text, a
- * whole script of call lines, and the contents of a maker note.
+ * The focus points of Nikon photographs: one photograph, a whole script of
+ * call lines, and the contents of a maker note.
  *
  * Each function is proved to do what its definition says
  * (crates/focuspoints/specs), which is told here in C's words, for every input:
- * it ends, reads nothing but what it is lent, writes nothing but `out` and
- * `written`, and keeps no state, so that any number of threads may call. It
- * allocates nothing.
+ * it ends, reads nothing but what it is lent, writes nothing but `out`, and
+ * keeps no state, so that any number of threads may call. It allocates nothing.
  * Tested by bindings/test and not proved are this header; that a function calls
  * nothing but memcpy, memmove, memset, memcmp and bcmp (today the first and the
  * third); and that it runs in a thread with a stack of 64 KB.
@@ -16,8 +15,7 @@
  * - NAME points at NAME_len places that stay as they are during the call;
  * - NAME is not NULL, even where NAME_len is 0 (any other address will do,
  *   of `out` one that its type can have);
- * - `out` overlaps none of the other arrays;
- * - `written` points at a size_t that no array overlaps, and is not NULL.
+ * - `out` overlaps none of the other arrays.
  * What the arrays hold, how long they are, and every number is free.
  */
 #ifndef FOCUSPOINTS_H
@@ -30,8 +28,8 @@
 extern "C" {
 #endif
 
-/* What focuspoints_photograph, focuspoints_report and focuspoints_contents
- * return. The lowest number that applies is returned. */
+/* What focuspoints_photograph and focuspoints_contents return. The lowest
+ * number that applies is returned. */
 #define FOCUSPOINTS_OK 0u                    /* the result is in `out` */
 #define FOCUSPOINTS_UNREADABLE 1u            /* the block is under 8 or over 1,048,576 bytes, has a bad header, or its directory passes its end */
 #define FOCUSPOINTS_NO_RECORD 2u             /* no focus record: tag 00B7 is absent or not of type 7 */
@@ -46,8 +44,6 @@ extern "C" {
 #define FOCUSPOINTS_A_POINT 6u    /* numbers a point */
 #define FOCUSPOINTS_MOST_POINTS 39u
 #define FOCUSPOINTS_LISTING 240u  /* always enough for a photograph: 6 + 6 * 39 */
-#define FOCUSPOINTS_REPORT_LINE 61u  /* bytes of a report's line, its line feed too */
-#define FOCUSPOINTS_REPORT 2440u  /* always enough for a report: 61 * (39 + 1) */
 #define FOCUSPOINTS_CONTENTS 5u   /* what contents needs */
 
 /* What focuspoints_script returns where `out` has too few places. */
@@ -84,32 +80,6 @@ uint32_t focuspoints_photograph(
     uint32_t picture_given, uint32_t picture_width, uint32_t picture_height,
     const uint8_t *model, size_t model_len,
     uint32_t *out, size_t out_len);
-
-/*
- * The same as text: a report that is ready to be printed.
- *
- * What is given is as for focuspoints_photograph. Returns FOCUSPOINTS_OK,
- * writes the text from out[0] on, with no zero byte behind it, and sets
- * *written to its number of bytes, 61 * (points + 1). The places behind the
- * text are kept.
- *
- * The text is a head line and a line a point, each of 60 characters and a line
- * feed: six numbers in decimal digits, set to the right in columns of 5, 11,
- * 11, 11, 11 and 11 characters, and spaces before them. The head line has the
- * number of points, the frame's width and height, which of the points is the
- * primary, how the camera chose, and where they come from; a point's line has
- * its six numbers, all of them as focuspoints_photograph writes them.
- *
- * Or returns 1 to 6 (above), or FOCUSPOINTS_SHORT where `out` has fewer than
- * 61 * (points + 1) places. Then the whole of `out` is kept, and *written.
- */
-uint32_t focuspoints_report(
-    const uint8_t *block, size_t block_len,
-    uint32_t raw_given, uint32_t raw_width, uint32_t raw_height,
-    uint32_t picture_given, uint32_t picture_width, uint32_t picture_height,
-    const uint8_t *model, size_t model_len,
-    uint8_t *out, size_t out_len,
-    size_t *written);
 
 /*
  * What a whole script of call lines is answered: the text that the program

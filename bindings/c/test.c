@@ -1,5 +1,4 @@
-/* The library as C calls it: what bindings/rust/tests tries, in short. `test LOADS BLOCK` runs the stored loads of a file too, and writes the
- * whole case's block to another. */
+/* The library as C calls it: what bindings/rust/tests tries, in short. `test BLOCK` also writes the whole case's block to a file. */
 #define _POSIX_C_SOURCE 200809L
 #include <pthread.h>
 #include <stdio.h>
@@ -158,116 +157,6 @@ static void photograph(void)
     }
     EXPECT(focuspoints_photograph(note, sizeof note, 1, 4512, 3008, 0, 4512, 3008, BYTES("NIKON D600"), out, 240) == FOCUSPOINTS_OK);
     EXPECT(out[7] == 3008);
-}
-
-/* What focuspoints_photograph and focuspoints_report are given. */
-struct load {
-    const uint8_t *block;
-    size_t block_len;
-    uint32_t raw[3], picture[3]; /* given, width, height */
-    const uint8_t *model;
-    size_t model_len;
-};
-
-#define REPORT_ROOM 3000
-static uint8_t report_out[REPORT_ROOM];
-static size_t told;
-
-/* The report in a buffer of so many places. */
-static uint32_t report_in(const struct load *l, size_t places)
-{
-    memset(report_out, 0xAB, sizeof report_out);
-    told = MARK;
-    return focuspoints_report(l->block, l->block_len, l->raw[0], l->raw[1], l->raw[2], l->picture[0], l->picture[1], l->picture[2],
-                              l->model, l->model_len, report_out, places, &told);
-}
-
-static int report_kept(size_t from)
-{
-    for (size_t i = from; i < sizeof report_out; i++)
-        if (report_out[i] != 0xAB)
-            return 0;
-    return 1;
-}
-
-/* A line of a report, as printf has it. */
-static size_t print_line(char *line, uint32_t a, uint32_t b, uint32_t c, uint32_t d, uint32_t e, uint32_t f)
-{
-    return (size_t)sprintf(line, "%5u%11u%11u%11u%11u%11u\n", a, b, c, d, e, f);
-}
-
-/* The report of a load is what printf makes of its numbers, in a buffer that has room, and nothing in one that has none. Gives the load's
- * number. */
-static uint32_t expect_report(const struct load *l)
-{
-    char wanted[REPORT_ROOM];
-    uint32_t n[FOCUSPOINTS_LISTING];
-    uint32_t no = focuspoints_photograph(l->block, l->block_len, l->raw[0], l->raw[1], l->raw[2], l->picture[0], l->picture[1],
-                                         l->picture[2], l->model, l->model_len, n, FOCUSPOINTS_LISTING);
-
-    if (no != FOCUSPOINTS_OK) {
-        EXPECT(report_in(l, 0) == no && report_kept(0) && told == MARK);
-        EXPECT(report_in(l, sizeof report_out) == no && report_kept(0) && told == MARK);
-        return no;
-    }
-    size_t len = print_line(wanted, n[2], n[0], n[1], n[3], n[4], n[5]);
-    for (const uint32_t *p = n + 6; p < n + 6 + 6 * n[2]; p += 6)
-        len += print_line(wanted + len, p[0], p[1], p[2], p[3], p[4], p[5]);
-    EXPECT(len == FOCUSPOINTS_REPORT_LINE * (n[2] + 1) && len <= FOCUSPOINTS_REPORT);
-
-    const size_t shorter[] = {0, 1, FOCUSPOINTS_REPORT_LINE, len - 1}, longer[] = {len, len + 1, FOCUSPOINTS_REPORT, sizeof report_out};
-    for (int i = 0; i < 4; i++) {
-        EXPECT(report_in(l, shorter[i]) == FOCUSPOINTS_SHORT && report_kept(0) && told == MARK);
-        EXPECT(report_in(l, longer[i]) == FOCUSPOINTS_OK && report_kept(len) && told == len && memcmp(report_out, wanted, len) == 0);
-    }
-    return no;
-}
-
-static void report(void)
-{
-    static const char lines[] = "    2       6016       4016          0          1          2\n"
-                                "    1       3008       2007        164        164          0\n"
-                                "   16       3486       2007        164        164          0\n";
-    const struct load whole = {note, sizeof note, {0, 0, 0}, {0, 0, 0}, BYTES("NIKON D600")};
-    const struct load unreadable = {note, 7, {0, 0, 0}, {0, 0, 0}, BYTES("NIKON D600")};
-    const struct load by_hand = {manual, sizeof manual, {0, 0, 0}, {0, 0, 0}, BYTES("NIKON D600")};
-    const struct load given = {note, sizeof note, {1, 7, 7}, {UINT32_MAX, 4512, 3008}, BYTES("NIKON D600")};
-
-    EXPECT(expect_report(&whole) == FOCUSPOINTS_OK);
-    EXPECT(report_in(&whole, sizeof lines - 1) == FOCUSPOINTS_OK && told == 183 && memcmp(report_out, lines, 183) == 0 && report_kept(183));
-    EXPECT(expect_report(&given) == FOCUSPOINTS_OK);
-    EXPECT(expect_report(&unreadable) == FOCUSPOINTS_UNREADABLE);
-    EXPECT(expect_report(&by_hand) == FOCUSPOINTS_MANUAL_FOCUS);
-}
-
-static uint32_t number_at(const uint8_t *at)
-{
-    return (uint32_t)at[0] << 24 | (uint32_t)at[1] << 16 | (uint32_t)at[2] << 8 | at[3];
-}
-
-/* The loads of crates/placing_test/stdin, 512 bytes each: flags, two sizes, the lengths of model and block, and these. */
-static void stored_reports(const char *path)
-{
-    uint8_t s[512];
-    unsigned loads = 0, answers[7] = {0};
-    FILE *f = fopen(path, "rb");
-
-    EXPECT(f != NULL);
-    while (f && fread(s, 1, sizeof s, f) == sizeof s) {
-        const struct load l = {
-            s + 20 + s[17], (size_t)s[18] << 8 | s[19],
-            {s[0] & 1, number_at(s + 1), number_at(s + 5)}, {s[0] & 2, number_at(s + 9), number_at(s + 13)},
-            s + 20, s[17]};
-        uint32_t no = expect_report(&l);
-        EXPECT(no < 7);
-        answers[no % 7]++;
-        loads++;
-    }
-    if (f)
-        fclose(f);
-    for (int i = 0; i < 7; i++)
-        EXPECT(answers[i] > 0);
-    printf("C: %u stored loads reported, %u of them with points\n", loads, answers[0]);
 }
 
 static void script(void)
@@ -447,7 +336,6 @@ static void *calls(void *unused)
     const size_t len = sizeof listed - 1;
 
     EXPECT(PHOTOGRAPH(note, sizeof note, out, 240) == FOCUSPOINTS_OK);
-    EXPECT(report_in(&(const struct load){note, sizeof note, {0, 0, 0}, {0, 0, 0}, BYTES("NIKON D600")}, 183) == FOCUSPOINTS_OK);
     EXPECT(focuspoints_contents(note, sizeof note, out, 5) == FOCUSPOINTS_OK);
     EXPECT(focuspoints_script(BYTES(whole_case), text, sizeof text) == sizeof answers - 1);
     EXPECT(focuspoints_script(BYTES(turned), text, sizeof text) == 3 * 64 + len && memcmp(text + 3 * 64, listed, len) == 0);
@@ -472,15 +360,13 @@ static void small_stack(void)
 int main(int argc, char **argv)
 {
     photograph();
-    report();
     script();
     contents();
     contents_in_order();
     contents_of_the_longest();
     small_stack();
-    if (argc == 3) {
-        stored_reports(argv[1]);
-        FILE *f = fopen(argv[2], "wb");
+    if (argc == 2) {
+        FILE *f = fopen(argv[1], "wb");
         EXPECT(f && fwrite(note, 1, sizeof note, f) == sizeof note && fclose(f) == 0);
     }
     printf("C: %s\n", failed ? "failed" : "passed");

@@ -7,13 +7,11 @@ Writes a list of calls for the program workspace_test, stdin of that crate, and
 what it must print, its stdout: the answers and buffers of the book of
 reference.py, which is fed the calls alone. The front of the list has every
 answer among its own, every orientation, boxes whose shape is just the frame's and
-just not, boxes with a side left blank, names that are easily taken for each
-other, each with what is kept under it, and reports, with a list beside them, into
-buffers that are just long enough, a byte short and longer, of numbers of one to
-ten digits; behind it come COUNT calls by chance. The loads are those that are
-stored for placing_test, and those of orientations.py, boxes.py and
-photographs.py. What is stored is of seed 1 and count 900, which are taken if none
-are given.
+just not, boxes with a side left blank, and names that are easily taken for each
+other, each with what is kept under it; behind it come COUNT calls by chance. The
+loads are those that are stored for placing_test, and those of orientations.py,
+boxes.py and photographs.py. What is stored is of seed 1 and count 900, which are
+taken if none are given.
 """
 
 import collections
@@ -27,7 +25,6 @@ import sys
 sys.dont_write_bytecode = True
 
 import boxes
-import demos
 import lines
 import orientations
 import photographs
@@ -36,8 +33,6 @@ import stored
 
 SEED, COUNT = 1, 900
 ENOUGH = 240
-# The most bytes that the buffer of a report has here.
-MOST_BYTES = 65535
 
 
 # --------------------------------------------------- calls and their answers
@@ -74,11 +69,6 @@ def return_to(name):
     return bytes([11, len(name)]) + name
 
 
-def report(length):
-    """A report into a buffer of so many bytes."""
-    return struct.pack(">BH", 13, length)
-
-
 BACK = bytes([5])
 
 
@@ -104,8 +94,6 @@ def answer(book, call):
     if code in (10, 11):
         name = rest[1 : 1 + rest[0]]
         return answer_line(book.keep(name) if code == 10 else book.return_to(name))
-    if code == 13:
-        return report_text(book, *struct.unpack(">H", rest[:2]))
     sys.exit("no call has the code %d" % code)
 
 
@@ -117,13 +105,6 @@ def places(count):
 def answer_line(answer, buffer=None):
     text = "no %d" % answer[1] if reference.refused(answer) else "ok" if answer == "ok" else reference.head_line(answer)
     return text if buffer is None else text + " |" + "".join(" %d" % n for n in buffer)
-
-
-def report_text(book, length):
-    """The line of a report: byte i of the buffer holds i mod 250 + 1 before it."""
-    buffer = bytearray(i % 250 + 1 for i in range(length))
-    answer = book.report(buffer)
-    return ("no %d" % answer[1] if reference.refused(answer) else "bytes %d" % answer) + " | " + buffer.hex()
 
 
 # ------------------------------------------------------------------ the loads
@@ -156,10 +137,8 @@ def every_answer():
     """Each answer that a call can have, often where higher numbers apply too, and each orientation."""
     yield from (cut(0, 0, 0, 0), orient(6), orient(0), orient(255), BACK, show(0), fit(0, 0, 0))  # 7
     yield from (call(name) for call in (keep, return_to) for name in NAMES[:1] + BAD_NAMES)  # 7 before 16
-    yield from map(report, (0, 1, 60, 61, 122))  # 7 before 13
     for number in range(1, 7):
         yield load(*loads()["no %d" % number][0][0])
-    yield from (show(6), report(122))
     for given in orientations.PHOTOGRAPHS:
         yield load(*given)
         yield from (BACK, cut(0, 0, 0, 1), cut(0, 0, 4294967295, 1), cut(0, 0, 1, 1), orient(0), orient(9), orient(255))
@@ -172,7 +151,7 @@ def every_answer():
     for i in range(reference.MAX_EDITS):
         yield orient((i * i + i // 3) % 8 + 1)
     yield from (show(ENOUGH), orient(1), orient(0), orient(9), cut(0, 0, 0, 0), BACK, orient(0), show(ENOUGH), orient(8), orient(9))
-    yield from (fit(300, 200, ENOUGH), fit(200, 300, ENOUGH), report(2440))
+    yield from (fit(300, 200, ENOUGH), fit(200, 300, ENOUGH))
     for _ in range(reference.MAX_EDITS + 1):
         yield BACK
     yield show(ENOUGH)
@@ -286,83 +265,11 @@ def behind_the_most():
     for i in range(reference.MAX_EDITS - 1):
         yield orient((i * i + i // 5) % 8 + 1)
     yield from (orient(1), keep(most), show(30), keep(b""), return_to(b""), return_to(b"B"), return_to(most), show(30), orient(1))
-    yield from map(report, (304, 305))
     yield from (return_to(one), show(30), orient(2), return_to(most), show(30), orient(1), cut(0, 0, 1, 1), return_to(most))
     yield from (BACK, orient(8), show(30), return_to(most), return_to(one), BACK, BACK, return_to(most))
     for _ in range(reference.MAX_EDITS + 1):
         yield BACK
     yield from shown([most, one])
-
-
-def needed(points):
-    """The bytes of a report with so many points."""
-    return reference.REPORT_LINE * (points + 1)
-
-
-def around(points):
-    """A list of so many points, and reports: a byte short, a line short, just enough, a byte more."""
-    exact = needed(points)
-    yield from (show(6 * points), report(exact - 1), report(exact - 61), report(exact), report(exact + 1))
-
-
-def exact(points):
-    """A list and a report that have just enough room."""
-    yield from (show(6 * points), report(needed(points)))
-
-
-def some_points(primary, *numbers, mode=(0, 0)):
-    """The load of a photograph with these points of the table."""
-    mask = sum(1 << number - 1 for number in numbers)
-    return load(None, None, reference.MODEL, demos.named_block("big", primary, mask, mode))
-
-
-# Two bytes for each mode.
-MODES = {0: (7, 7), 1: (0, 0), 2: (0, 5), 3: (0, 8), 4: (2, 207)}
-# All bits of the mask; those above 39 name no point.
-ALL = range(1, 57)
-
-
-def few_points():
-    """Reports of one, two and three points, the primary at each place, in buffers of all kinds; calls that are refused change none."""
-    yield from (some_points(1), *around(1), *map(report, (0, 60, 120, 124, 183)))
-    for primary in (1, 9):
-        yield from (some_points(primary, 1, 9), *around(2))
-    for primary in (1, 9, 38):
-        yield from (some_points(primary, 1, 9, 38), *around(3))
-    yield report(1500)
-    for number in orientations.EIGHT:
-        yield from (orient(number), orient(0), cut(0, 0, 1, 1), *exact(3), BACK)
-    # 38 is left of the others, 9 below them: cuts that drop the one, the other, and behind that both.
-    yield from (some_points(1, 1, 9, 38), cut(2800, 1000, 1000, 2000), *exact(2), report(244), BACK, BACK, *exact(3))
-    yield from (cut(0, 0, 6016, 2300), orient(5), *exact(2), report(182), cut(0, 2000, 2300, 2000), *exact(1), report(121))
-    yield from (BACK, *exact(2), BACK, BACK, load(*loads()["no 4"][0][0]), *exact(3), BACK, report(244), report(0))
-
-
-def all_points():
-    """Reports of all 39 points, the primary first, in the middle and last, and of those that cuts leave."""
-    yield from (some_points(1, *ALL), show(6 * 39), *map(report, (2439, 2440, 2441)))
-    # One row of the table's points, on its side: 8 of them, 2311 from the left.
-    yield from (some_points(20, *ALL, mode=MODES[3]), *exact(39), orient(7), cut(2200, 0, 220, 6016), *exact(8), report(548))
-    # Four columns of them, 12 points, of which another cut leaves two.
-    yield from (some_points(39, *ALL, mode=MODES[4]), *exact(39), cut(1700, 1500, 1000, 1000), *around(12))
-    yield from (cut(0, 400, 300, 500), *exact(2), BACK, report(792), report(793))
-
-
-def digits():
-    """Reports of numbers of one to ten digits in each column that can have them, and of each mode, origin and in-focus answer."""
-    for given in photographs.OF_ANY_DIGITS + [photographs.LARGEST]:
-        yield from (load(*given), *exact(1))
-    for number, mode in MODES.items():
-        at_a_side = photographs.recorded((500, 3800), (300, 200), in_focus=number % 3, mode=mode)
-        yield from (some_points(1, 38, mode=mode), report(183), load(*at_a_side), report(122))
-
-
-def kept_reports():
-    """Reports behind returns: of the edits that are come back to. One is no edit, and clears no name."""
-    one, other = NAMES[:2]
-    yield from (some_points(9, 1, 9, 38), cut(2800, 1000, 1000, 2000), keep(one), report(183), BACK, orient(8), keep(other))
-    yield from (report(244), return_to(one), report(182), *exact(2), return_to(other), report(183), *exact(3))
-    yield from (return_to(OTHERS[0]), keep(b""), report(245), return_to(one), report(243), BACK, *exact(3), BACK)
 
 
 class Run:
@@ -386,8 +293,8 @@ class Run:
 
     def one_call(self):
         chance, book = self.chance, self.book
-        kind = chance.choices(["load", "cut", "orient", "back", "list", "fit", "keep", "return", "report", "names", "full"],
-                              [6, 22, 28, 14, 20, 12, 12, 14, 6, 0.6, 0.2])[0]
+        kind = chance.choices(["load", "cut", "orient", "back", "list", "fit", "keep", "return", "names", "full"],
+                              [6, 22, 28, 14, 20, 12, 12, 14, 0.6, 0.2])[0]
         if kind == "load":
             self.add(load(*chance.choice(any_load())))
         elif kind == "cut":
@@ -404,8 +311,6 @@ class Run:
             self.add(keep(self.a_name()))
         elif kind == "return":
             self.back_to(self.a_name())
-        elif kind == "report":
-            self.add(report(self.some_bytes()))
         elif kind == "names":  # keeps, each behind another edit, until no other name may be kept; then returns to some of them
             for name in chance.sample(SOME_NAMES, len(SOME_NAMES)):
                 self.add(orient(stored.an_orientation(chance)))
@@ -443,80 +348,21 @@ class Run:
         needed = 0 if self.book.held is None else 6 * len(self.book.listed())
         return self.chance.choice([needed, needed, min(255, needed + 3), ENOUGH, max(0, needed - 1), 0])
 
-    def some_bytes(self):
-        """How many bytes for a report: mostly just enough, one too few or some more; else some lines off, any number, or the most."""
-        chance = self.chance
-        exact = needed(0 if self.book.held is None else len(self.book.listed()))
-        way = chance.choices(["exact", "short", "longer", "lines", "any", "most"], [30, 20, 20, 12, 6, 0.3])[0]
-        length = {
-            "exact": exact,
-            "short": exact - 1,
-            "longer": exact + chance.choice([1, 1, 2, 7, 60]),
-            "lines": exact + 61 * chance.randrange(-3, 4) + chance.choice([-1, 0, 0, 1]),
-            "any": int(2 ** chance.uniform(0, 16)) - 1,
-            "most": MOST_BYTES,
-        }[way]
-        return min(max(length, 0), MOST_BYTES)
-
-
-def reports_of(calls, answers):
-    """The reports among some calls, each as (points, bytes, answer, lines): how many points are listed, 0 for an empty workspace, how many
-    bytes the buffer has, the number of a refusal or 0, and the lines of an accepted one as lists of numbers."""
-    book = reference.Book()
-    for call, line in zip(calls, answers):
-        if call[0] == 13:
-            (length,) = struct.unpack(">H", call[1:3])
-            points = 0 if book.held is None else len(book.listed())
-            said, buffer = line.split(" | ")
-            kind, number = said.split(" ")
-            text = bytes.fromhex(buffer)[: int(number)] if kind == "bytes" else b""
-            rows = [list(map(int, row.split())) for row in text.splitlines()]
-            yield points, length, 0 if kind == "bytes" else int(number), rows
-        answer(book, call)
-
-
-# In which columns of a head line and of a point's line which numbers are to be there, and in which numbers of one to ten digits.
-REPORTED = {("head", 3): (0, 1, 2, 19, 38), ("head", 4): range(5), ("head", 5): (1, 2), ("point", 0): range(40), ("point", 5): range(3)}
-LONG = [("head", 1), ("head", 2)] + [("point", column) for column in range(1, 5)]
-
-
-def not_reported(calls, answers):
-    """What should be in the front's reports and is not: 7 with and without room; some points in buffers that are a byte short, just long
-    enough and a byte longer; and these numbers."""
-    ends, numbers, lengths = set(), set(), set()
-    for points, length, number, rows in reports_of(calls, answers):
-        ends.add((number, points, length - needed(points)))
-        for place, row in enumerate(rows):
-            kind = "point" if place else "head"
-            numbers.update((kind, column, number) for column, number in enumerate(row))
-            lengths.update((kind, column, len(str(number))) for column, number in enumerate(row))
-    wanted = [(7, 0, -61), (7, 0, 61)]
-    wanted += [(13 if spare < 0 else 0, points, spare) for points in (1, 2, 3, 12, 39) for spare in (-1, 0, 1)]
-    yield from ("answer %d, %d points and %d bytes more than they need" % end for end in wanted if end not in ends)
-    for place, wanted in REPORTED.items():
-        yield from ("a %s line with %d in column %d" % (place[0], n, place[1]) for n in wanted if (*place, n) not in numbers)
-    for place in LONG:
-        yield from ("a %s line with %d digits in column %d" % (place[0], n, place[1]) for n in range(1, 11) if (*place, n) not in lengths)
-
 
 def tally(answers):
-    """How often each answer comes: 'no N', ok, frame, bytes."""
+    """How often each answer comes: 'no N', ok, frame."""
     return collections.Counter(line.split(" |")[0] if line.startswith("no") else line.split(" ")[0] for line in answers)
 
 
 def files(seed, count):
     """The files, as (path, bytes)."""
     run = Run(seed)
-    for data in itertools.chain(every_answer(), shapes(), around_loads(), kept_edits(), behind_the_most(), few_points(), all_points(),
-                                digits(), kept_reports()):
+    for data in itertools.chain(every_answer(), shapes(), around_loads(), kept_edits(), behind_the_most()):
         run.add(data)
     front = tally(run.lines)
-    missing = [name for name in ["ok", "frame", "bytes"] + ["no %d" % n for n in range(1, 20) if n != 14] if not front[name]]
+    missing = [name for name in ["ok", "frame"] + ["no %d" % n for n in range(1, 20) if n != 14] if not front[name]]
     if missing:
         sys.exit("no call of the front is answered %s" % ", ".join(missing))
-    missing = list(not_reported(run.calls, run.lines))
-    if missing:
-        sys.exit("no report of the front has %s" % ", ".join(missing))
     run.by_chance(count)
     crate = os.path.join("crates", "workspace_test")
     yield os.path.join(crate, "stdin"), b"".join(run.calls)

@@ -359,7 +359,7 @@ def malformed(chance, good, given):
         data[at] = (data[at] + chance.choice([1, 255, 128, 1 << chance.randrange(8), chance.randrange(1, 256)])) % 256
         return data.hex().encode()
     if way == "code":
-        return script.line(chance.choice([0, 3, 3, 4, 4, 10, 11, 13, 0x30, 0x83, 0x89, 255, chance.randrange(10, 256)]),
+        return script.line(chance.choice([0, 3, 3, 4, 4, 10, 11, 0x30, 0x83, 0x89, 255, chance.randrange(10, 256)]),
                            chance.randbytes(chance.choice([0, 0, 1, 8, 16, 40])))
     if way == "one":
         return b"%02x" % chance.choice([0, 0, 6, 9, 255])

@@ -84,11 +84,10 @@ def malformed():
                 load[:-2] + b"00", cut[:-1] + b"0", b"F10609")
     # One byte, with a check that is right or wrong.
     yield from (b"00", b"01", b"06", b"09", b"FF")
-    # An unknown code: 03 and 04 too, which turn and mirror had, and those that workspace_test has for keep, return and report: 0A, 0B, 0D.
-    for code in (0, 3, 4, 10, 11, 13, 16, 0x30, 0x83, 0x89, 254, 255):
+    # An unknown code: 03 and 04 too, which turn and mirror had, and those that workspace_test has for keep and return, 0A and 0B.
+    for code in (0, 3, 4, 10, 11, 16, 0x30, 0x83, 0x89, 254, 255):
         yield script.line(code)
         yield script.line(code, b"\6")
-        yield script.line(code, b"\0\x7a")
         yield script.line(code, b"\4page")
         yield script.line(code, bytes(16))
     # A wrong length for each code.

@@ -10,16 +10,16 @@ import script
 MOST = reference.MAX_U32
 
 
-def recorded(centre, area, *entries, picture=None, in_focus=1, mode=(0, 0)):
+def recorded(centre, area, *entries, picture=None):
     """A position in a frame of 6000 by 4000, behind these entries."""
-    block = demos.recorded_block(b"0101", "big", ((6000, 4000), centre, area), in_focus, mode, entries)
+    block = demos.recorded_block(b"0101", "big", ((6000, 4000), centre, area), 1, (0, 0), entries)
     return None, picture, b"", block
 
 
-def scaled_to(*picture, centre=(500, 3800), area=(300, 200)):
+def scaled_to(*picture):
     """A position that is scaled to a picture of these sides, which is the frame; near its lower left corner."""
     crop = (0x1B, 3, 7, readers.numbers("big", 2, 9, 6000, 4000, 3000, 2000, 0, 0))
-    return recorded(centre, area, crop, picture=picture)
+    return recorded((500, 3800), (300, 200), crop, picture=picture)
 
 
 # Without an area, at (0, 2) of 3 by 2: x is floor((500 * 3 + 3000) / 6000), y is floor((3800 * 2 + 2000) / 4000).
@@ -29,10 +29,6 @@ WIDE, TALL, LARGEST = scaled_to(MOST, 2), scaled_to(1, MOST), scaled_to(MOST, MO
 # These and others that are hardly a frame; in one of them a thousand columns have a worked side that is capped, and are accepted.
 OTHERS = ((1, 1), (MOST, 1), (2500, MOST), (3, MOST // 1000), (MOST, MOST))
 EXTREME = [CORNER, WIDE, TALL, LARGEST, *(scaled_to(*frame) for frame in OTHERS)]
-# Sides of one to ten digits, of which the half, rounded up, has as many. The centre is there, and the area is the frame, less a pixel
-# where a side is odd: across and down, sides, centres and areas have one to ten digits.
-BY_DIGITS = (7, 42, 365, 6016, 65535, 654321, 9999999, 87654321, 987654321, MOST)
-OF_ANY_DIGITS = [scaled_to(*frame, centre=(3000, 2000), area=(6000, 4000)) for frame in zip(BY_DIGITS, BY_DIGITS[::-1])]
 
 
 def load_line(given):

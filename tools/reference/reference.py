@@ -33,8 +33,6 @@ MAX_EDITS = 64
 MAX_LINE = 4_096
 MAX_NAME = 16
 MAX_NAMES = 8
-REPORT_COLUMNS = (5, 11, 11, 11, 11, 11)
-REPORT_LINE = 61
 
 
 def no(number):
@@ -453,9 +451,8 @@ class Book:
     """What a list of calls amounts to: empty, or a load, standing edits and
     names, each with the edits that are kept under it.
 
-    Calls answer ('no', n), 'ok', a Listing, the bytes that a report has, or the
-    tags of `contents`. A refused call leaves the book, and the buffer, as they
-    are."""
+    Calls answer ('no', n), 'ok', a Listing, or the tags of `contents`. A
+    refused call leaves the book, and the buffer, as they are."""
 
     def __init__(self):
         self.held = None
@@ -560,31 +557,8 @@ class Book:
         primary = [i for i, _ in listed].index(self.held.primary)
         return Listing(frame, len(listed), primary, self.held.mode, self.held.origin)
 
-    def report(self, buffer):
-        """02's picture slip, the listing as text in a buffer of bytes: 'one head
-        line with count, frame width, frame height, primary index, mode, origin,
-        then a line a point with its six numbers'. 'The answer is the number of
-        bytes written'."""
-        if self.held is None:
-            return no(7)
-        listed = self.listed()
-        if len(buffer) < REPORT_LINE * (len(listed) + 1):
-            return no(13)
-        primary = [i for i, _ in listed].index(self.held.primary)
-        head = (len(listed), *self.frame(), primary, self.held.mode, self.held.origin)
-        text = b"".join(report_line(numbers) for numbers in [head, *(point for _, point in listed)])
-        buffer[: len(text)] = text
-        return len(text)
-
     def contents(self, block):
         return contents(block)
-
-
-def report_line(numbers):
-    """'Every line exactly 60 characters and a line feed'; 'numbers are decimal
-    digits set to the right in columns of 5, 11, 11, 11, 11 and 11, filled with
-    spaces'."""
-    return b"".join(b"%*d" % (width, number) for width, number in zip(REPORT_COLUMNS, numbers)) + b"\n"
 
 
 # --------------------------------------------------------- call lines, text
@@ -946,95 +920,6 @@ def blank_checks():
     ]
 
 
-# Written out by hand: 01's whole case behind its cut; the D600's DX crop with points 1, 27 and 38, turned; and a point of one to ten
-# digits in each of its columns but the first and the last.
-WHOLE_CASE_REPORT = b"""\
-    1        400        400          0          1          2
-    1        109        108        164        164          0
-"""
-DX_REPORT = b"""\
-    3       2624       3936          1          3          2
-    1       1313       1968        164        164          0
-   27       1012       3163        164        164          0
-   38       1615        772        164        164          0
-"""
-DIGITS_REPORT = b"""\
-   10 4294967295 1000000000          9          0          1
-    1          7          1          2          3          2
-   10         10         99         11         22          1
-   39        365        100        999        444          0
-    0       6016       4016       1234       5678          2
-    9      65536      65535      10000      99999          1
-   19     123456     654321     100000     999999          0
-   20    9999999    1000000    1234567    7654321          2
-    5   10000000   99999999   12345678   87654321          1
-    8  123456789  987654321  100000000  999999999          0
-   38 4294967295 1000000000 2147483648 4294967294          2
-"""
-
-
-def digits_back(text):
-    """The numbers of a report, line by line, read from their columns alone: digits with spaces before them and none behind."""
-    lines = []
-    for start in range(0, len(text), 61):
-        numbers, at = [], start
-        for width in (5, 11, 11, 11, 11, 11):
-            column = text[at : at + width].lstrip(b" ")
-            numbers.append(int(column) if column.isdigit() else column)
-            at += width
-        lines.append(numbers if text[at : at + 1] == b"\n" else text[at : at + 1])
-    return lines
-
-
-def reported(book, *lengths):
-    """What reports into buffers of these lengths, of bytes 1 to 250 over and over, answer, and what is then in the buffer."""
-    answers = []
-    for length in lengths:
-        buffer = bytearray(i % 250 + 1 for i in range(length))
-        answers.append((book.report(buffer), bytes(buffer)))
-    return answers
-
-
-def report_checks():
-    """Reports, as (what it is, got, wanted)."""
-    before = bytes(range(1, 251)) * 11
-    mask = (1 << 0 | 1 << 26 | 1 << 37).to_bytes(7, "little")
-    crop = (CROP_HI_SPEED, 3, 7, shorts(2, 6016, 4016, 3936, 2624, 1040, 696))
-    dx, digits = Book(), Book()
-    dx.load(build_block(crop, (RECORD, 7, 30, (b"0100\0\x08\x03\x1b" + mask).ljust(30, b"\0"))), None, None, MODEL)
-    dx.orient(6)
-    points = [Point(*numbers) for numbers in digits_back(DIGITS_REPORT)[1:]]
-    digits.held = Placed((MAX_U32, 1000000000), tuple(points), 9, 0, 1)
-    whole = book_of(TURN_CALL, ("cut", 1900, 2900, 400, 400))
-    buffer = [0] * 18
-    listed = dx.list(buffer)
-
-    def accepted(text, *lengths):
-        """Reports of a text in buffers that have room for it: what is behind it is kept."""
-        return [(len(text), text + before[len(text) : length]) for length in lengths]
-
-    def short(*lengths):
-        return [(no(13), before[:length]) for length in lengths]
-
-    return [
-        ("the whole case as a report", reported(whole, 122), accepted(WHOLE_CASE_REPORT, 122)),
-        ("one byte more, and many", reported(whole, 123, 124, 2500), accepted(WHOLE_CASE_REPORT, 123, 124, 2500)),
-        ("one byte short, one line, nothing", reported(whole, 121, 61, 60, 1, 0), short(121, 61, 60, 1, 0)),
-        ("three points, exact and longer", reported(dx, 244, 245, 305), accepted(DX_REPORT, 244, 245, 305)),
-        ("three points, one byte short, a line short", reported(dx, 243, 183, 0), short(243, 183, 0)),
-        ("the digits are the listed numbers", digits_back(DX_REPORT),
-         [[listed.count, *listed.frame, *listed[2:]]] + [buffer[:6], buffer[6:12], buffer[12:]]),
-        ("one to ten digits", reported(digits, 671, 672, 670), accepted(DIGITS_REPORT, 671, 672) + short(670)),
-        ("as many digits as are meant", [sorted({len(str(number)) for number in column}) for column in zip(*points)],
-         [[1, 2]] + [list(range(1, 11))] * 4 + [[1]]),
-        ("a column that touches no other", report_line([39] + [MAX_U32] * 5), b"   39" + b" 4294967295" * 5 + b"\n"),
-        ("zeros", report_line([0] * 6), b"    0" + b"          0" * 5 + b"\n"),
-        ("an empty book, with and without room", reported(Book(), 0, 61, 122), [(no(7), before[:n]) for n in (0, 61, 122)]),
-        ("a report changes nothing", [reported(dx, 244, 0, 244)[2], dx.back(), dx.back(), dx.names],
-         [accepted(DX_REPORT, 244)[0], "ok", no(11), {}]),
-    ]
-
-
 def self_test():
     dx = (2, 6016, 4016, 3936, 2624, 1040, 696)
 
@@ -1122,8 +1007,7 @@ def self_test():
         ("cut past the frame", book.cut(1, 0, 6016, 1), no(9)),
         ("cut that drops the primary", book.cut(0, 0, 100, 100), no(10)),
         ("fit to no sides", book.fit(0, 0, []), no(12)),
-        ("no code for a report", run_script(call_line(b"\x0d\x00\x7a")), "no 14\n"),
-    ] + name_checks() + kept_checks() + shape_checks() + blank_checks() + report_checks()
+    ] + name_checks() + kept_checks() + shape_checks() + blank_checks()
     failed = [(name, got, wanted) for name, got, wanted in checks if got != wanted]
     for name, got, wanted in failed:
         print("%s: got %r, wanted %r" % (name, got, wanted))

@@ -4,11 +4,10 @@ states.py --check    say whether the files are what would be written
 
 Writes the jobs of the program state_bench, stdin of that crate, each kind of it
 some times over, behind one turn, kinds 1, 5 and 6 behind none, 32 and 64 equal
-edits, kind 9 behind none, one and 32, to boxes that are accepted and refused, with
-both sides and with one left blank, and kind 10 behind three; and what it must
-print, its stdout: what the book of reference.py answers to the last of the same
-calls, how many edits then stand, and the sum of what is listed, or the report. The
-times themselves are taken by tools/bench.
+edits, and kind 9 behind none, one and 32, to boxes that are accepted and refused,
+with both sides and with one left blank; and what it must print, its stdout: what
+the book of reference.py answers to the last of the same calls, how many edits then
+stand, and the sum of what is listed. The times themselves are taken by tools/bench.
 """
 
 import struct
@@ -34,8 +33,8 @@ EQUAL = {
 # For a frame of 6016 by 4016: a quarter of each side; off by 1600 where 6016 is the most; and off by 6400, which is refused.
 # Then with a blank side: worked out as the first, as 1200 by 801, and, refused, as 4294967295 by 4294967295; and without sides.
 BOXES = ((1504, 1004), (300, 200), (1200, 800), (0, 1004), (1200, 0), (0, reference.MAX_U32), (0, 0))
-# The kinds, those that write numbers into a buffer, and the one that writes a report into so many bytes.
-KINDS, LISTS, REPORT, REPORT_BYTES = range(1, 11), (5, 6, 9), 10, calls.needed(39)
+# The kinds, and those that write into a buffer.
+KINDS, LISTS = range(1, 10), (5, 6, 9)
 
 
 def boxes_behind(standing, edit):
@@ -55,7 +54,6 @@ def once(kind, edit, box):
         7: [calls.orient(0)],
         8: [calls.orient(0)],
         9: [calls.fit(*box, calls.ENOUGH)],
-        REPORT: [calls.report(REPORT_BYTES)],
     }[kind]
 
 
@@ -65,20 +63,17 @@ def job(kind, count, standing, edit, box=(0, 0)):
 
 
 def printed(kind, count, standing, edit, box=(0, 0)):
-    """The line for a job; for reports, the text of the last and an empty line behind it."""
+    """The line for a job."""
     book = reference.Book()
     for call in [calls.load(*LOAD), *[edit] * standing, *map(calls.keep, NAMES)]:
         calls.answer(book, call)
-    last, total, text = "none", 0, ""
+    last, total = "none", 0
     for call in once(kind, edit, box) * count:
         last, _, buffer = calls.answer(book, call).partition(" |")
     if last.startswith("frame"):
         points = int(last.split()[4])
         last, total = "ok", sum(map(int, buffer.split()[: 6 * points]))
-    elif last.startswith("bytes"):
-        text = bytes.fromhex(buffer)[: int(last.split()[1])].decode()
-        last = "ok"
-    ending = ", sum %d" % (total % 2**32) if kind in LISTS else ", bytes %d\n%s" % (len(text), text) if kind == REPORT else ""
+    ending = ", sum %d" % (total % 2**32) if kind in LISTS else ""
     return "kind %d, times %d: %s, standing %d%s\n" % (kind, count, last, len(book.row), ending)
 
 
@@ -88,7 +83,6 @@ def files():
     jobs += [(kind, 2, standing, edit) for kind in (1, 5, 6) for edit in EQUAL.values() for standing in (0, 32, 64)]
     jobs += [(9, 2, standing, edit, box)
              for edit in EQUAL.values() for standing in (0, 1, 32) for box in boxes_behind(standing, edit)]
-    jobs += [(REPORT, 2, 3, edit) for edit in EQUAL.values()]
     records = [calls.load(*LOAD).ljust(stored.RECORD, b"\0"), *(job(*each) for each in jobs), job(0, 1, 0, b"")]
     yield "crates/state_bench/stdin", b"".join(records)
     yield "crates/state_bench/stdout", ("".join(printed(*each) for each in jobs) + "kind 0, times 1: no such kind\n").encode()

@@ -1,6 +1,6 @@
-//! The focus points of Nikon photographs: one photograph, its report as text, a whole script of call lines, and the contents of a maker note.
-//! The functions of libfocuspoints.a are proved to meet their contracts (crates/focuspoints); this wrapper hands them slices and gives names
-//! to the numbers that they write. What they need of a caller is what Rust's references have: slices that are there, aligned and apart.
+//! The focus points of Nikon photographs: one photograph, a whole script of call lines, and the contents of a maker note. The functions of
+//! libfocuspoints.a are proved to meet their contracts (crates/focuspoints); this wrapper hands them slices and gives names to the numbers
+//! that they write. What they need of a caller is what Rust's references have: slices that are there, aligned and apart.
 
 use std::error;
 use std::fmt;
@@ -20,21 +20,6 @@ extern "C" {
         out: *mut u32,
         out_len: usize,
     ) -> u32;
-    fn focuspoints_report(
-        block: *const u8,
-        block_len: usize,
-        raw_given: u32,
-        raw_width: u32,
-        raw_height: u32,
-        picture_given: u32,
-        picture_width: u32,
-        picture_height: u32,
-        model: *const u8,
-        model_len: usize,
-        out: *mut u8,
-        out_len: usize,
-        written: *mut usize,
-    ) -> u32;
     fn focuspoints_script(
         script: *const u8,
         script_len: usize,
@@ -51,8 +36,6 @@ extern "C" {
 
 /// How many places are always enough for a listing: a head of six numbers, and six numbers for each of 39 points.
 pub const LISTING: usize = 240;
-/// How many bytes are always enough for a report: 40 lines of 60 characters and a line feed.
-pub const REPORT: usize = 2440;
 /// How many places contents needs.
 pub const CONTENTS: usize = 5;
 /// No line of a script is answered with more bytes.
@@ -187,8 +170,9 @@ pub fn photograph_into(
     model: &[u8],
     out: &mut [u32],
 ) -> Result<usize, Refusal> {
-    let (raw_given, raw_width, raw_height) = flag_and_sides(raw);
-    let (picture_given, picture_width, picture_height) = flag_and_sides(picture);
+    let sides = |size: Option<Size>| size.map_or((0, 0, 0), |s| (1, s.width, s.height));
+    let (raw_given, raw_width, raw_height) = sides(raw);
+    let (picture_given, picture_width, picture_height) = sides(picture);
     // SAFETY: the pointers and lengths are those of slices, of which `out` is lent to this call alone. The contract asks nothing more.
     let number = unsafe {
         focuspoints_photograph(
@@ -208,11 +192,6 @@ pub fn photograph_into(
     };
     Refusal::of(number)?;
     Ok(6 + 6 * out[2] as usize)
-}
-
-/// A size that may be missing, as the library takes it.
-fn flag_and_sides(size: Option<Size>) -> (u32, u32, u32) {
-    size.map_or((0, 0, 0), |s| (1, s.width, s.height))
 }
 
 /// The names of a listing's numbers.
@@ -242,56 +221,6 @@ fn listing_of(numbers: &[u32]) -> Listing {
         },
         points: (0..numbers[2] as usize).map(|i| point(6 + 6 * i)).collect(),
     }
-}
-
-/// The points of one photograph as text: a head line (how many points, the frame's width and height, the primary's index, mode, origin) and
-/// a line a point (number, x, y, width, height, in-focus), each of 60 characters and a line feed, the numbers set to the right in columns of
-/// 5, 11, 11, 11, 11 and 11.
-pub fn report(
-    block: &[u8],
-    raw: Option<Size>,
-    picture: Option<Size>,
-    model: &[u8],
-) -> Result<String, Refusal> {
-    let mut out = vec![0; REPORT];
-    let len = report_into(block, raw, picture, model, &mut out)?;
-    out.truncate(len);
-    Ok(String::from_utf8(out)
-        .expect("the library's contract has digits, spaces and line feeds alone"))
-}
-
-/// The same at a buffer's front: gives the text's length, 61 for each line. The rest of the buffer is kept, and all of it where the answer is
-/// a refusal. `REPORT` bytes are always enough.
-pub fn report_into(
-    block: &[u8],
-    raw: Option<Size>,
-    picture: Option<Size>,
-    model: &[u8],
-    out: &mut [u8],
-) -> Result<usize, Refusal> {
-    let (raw_given, raw_width, raw_height) = flag_and_sides(raw);
-    let (picture_given, picture_width, picture_height) = flag_and_sides(picture);
-    let mut written = 0;
-    // SAFETY: as in `photograph_into`; `written` is a local, apart from the slices.
-    let number = unsafe {
-        focuspoints_report(
-            block.as_ptr(),
-            block.len(),
-            raw_given,
-            raw_width,
-            raw_height,
-            picture_given,
-            picture_width,
-            picture_height,
-            model.as_ptr(),
-            model.len(),
-            out.as_mut_ptr(),
-            out.len(),
-            &mut written,
-        )
-    };
-    Refusal::of(number)?;
-    Ok(written)
 }
 
 /// What a whole script of call lines is answered: the text that the program focusdesk prints for it.

@@ -147,78 +147,6 @@ fn all_39_points_need_240_places() {
     assert_eq!(photograph_into(&block, None, None, MODEL, &mut out), Ok(240));
 }
 
-/// A report made of the numbers that `photograph_into` writes.
-fn formatted(numbers: &[u32]) -> String {
-    let line = |n: [u32; 6]| {
-        format!("{:>5}{:>11}{:>11}{:>11}{:>11}{:>11}\n", n[0], n[1], n[2], n[3], n[4], n[5])
-    };
-    let [width, height, count, primary, mode, origin]: [u32; 6] = numbers[..6].try_into().unwrap();
-    let mut text = line([count, width, height, primary, mode, origin]);
-    for point in numbers[6..].chunks_exact(6) {
-        text += &line(point.try_into().unwrap());
-    }
-    text
-}
-
-/// The report of a load is what its numbers say, in a buffer that has room, and nothing in one that has none. Gives the load's number.
-fn expect_report(block: &[u8], raw: Option<Size>, picture: Option<Size>, model: &[u8]) -> u32 {
-    let into = |out: &mut [u8]| report_into(block, raw, picture, model, out);
-    let mut numbers = [0; LISTING];
-    let count = match photograph_into(block, raw, picture, model, &mut numbers) {
-        Ok(count) => count,
-        Err(why) => {
-            for places in [0, REPORT] {
-                let mut out = vec![0xAB; places];
-                assert_eq!(into(&mut out), Err(why));
-                assert!(out.iter().all(|&c| c == 0xAB), "{why}");
-            }
-            assert_eq!(report(block, raw, picture, model), Err(why));
-            return why.number();
-        }
-    };
-    let wanted = formatted(&numbers[..count]);
-    let len = wanted.len();
-    assert_eq!(len, 61 * (numbers[2] as usize + 1));
-    assert!(len <= REPORT && wanted.lines().all(|line| line.len() == 60));
-    assert_eq!(report(block, raw, picture, model).as_ref(), Ok(&wanted));
-    for places in [0, 1, 61, len - 1] {
-        let mut out = vec![0xAB; places];
-        assert_eq!(into(&mut out), Err(Refusal::Short));
-        assert!(out.iter().all(|&c| c == 0xAB), "{places} places");
-    }
-    for places in [len, len + 1, REPORT, 3000] {
-        let mut out = vec![0xAB; places];
-        assert_eq!(into(&mut out), Ok(len));
-        assert_eq!(out[..len], *wanted.as_bytes());
-        assert!(out[len..].iter().all(|&c| c == 0xAB), "{places} places");
-    }
-    0
-}
-
-#[test]
-fn the_whole_cases_report() {
-    let text = concat!(
-        "    2       6016       4016          0          1          2\n",
-        "    1       3008       2007        164        164          0\n",
-        "   16       3486       2007        164        164          0\n",
-    );
-    assert_eq!(report(&whole_case(), None, None, MODEL).unwrap(), text);
-    assert_eq!(expect_report(&whole_case(), None, None, MODEL), 0);
-    for (block, why) in refused() {
-        assert_eq!(expect_report(&block, None, None, MODEL), why.number());
-    }
-}
-
-#[test]
-fn all_39_points_are_reported_in_2440_bytes() {
-    let block = all_points();
-    assert_eq!(expect_report(&block, None, None, MODEL), 0);
-    let mut out = [0xAB; REPORT];
-    assert_eq!(report_into(&block, None, None, MODEL, &mut out[..2439]), Err(Refusal::Short));
-    assert_eq!(out, [0xAB; REPORT]);
-    assert_eq!(report_into(&block, None, None, MODEL, &mut out), Ok(2440));
-}
-
 #[test]
 fn sizes_are_missing_or_given() {
     // Point 1 in a picture of 4512 by 3008 (the specification's example), and in the whole frame.
@@ -254,14 +182,8 @@ fn sizes_are_missing_or_given() {
 #[test]
 fn slices_of_length_0() {
     assert_eq!(photograph_into(&[], None, None, &[], &mut []), Err(Refusal::Unreadable));
-    assert_eq!(
-        photograph_into(&whole_case(), None, None, &[], &mut []),
-        Err(Refusal::NamesUnplaced)
-    );
+    assert_eq!(photograph_into(&whole_case(), None, None, &[], &mut []), Err(Refusal::NamesUnplaced));
     assert_eq!(photograph_into(&whole_case(), None, None, MODEL, &mut []), Err(Refusal::Short));
-    assert_eq!(report_into(&[], None, None, &[], &mut []), Err(Refusal::Unreadable));
-    assert_eq!(report_into(&whole_case(), None, None, &[], &mut []), Err(Refusal::NamesUnplaced));
-    assert_eq!(report_into(&whole_case(), None, None, MODEL, &mut []), Err(Refusal::Short));
     assert_eq!(contents_into(&[], &mut []), Err(Refusal::Unreadable));
     assert_eq!(contents_into(&whole_case(), &mut []), Err(Refusal::Short));
     assert_eq!(script_into(&[], &mut []), Ok(0));
@@ -633,9 +555,12 @@ fn line_of(answer: Result<Listing, Refusal>) -> String {
     line
 }
 
-/// Calls a function on each load of `placing_test` (block, raw and picture size, model) and gives how many there are.
-fn for_stored_loads(mut each: impl FnMut(&[u8], Option<Size>, Option<Size>, &[u8])) -> usize {
+#[test]
+fn stored_loads_are_answered_as_by_the_original() {
     let loads = stored("crates/placing_test/stdin");
+    let answers = String::from_utf8(stored("crates/placing_test/stdout")).unwrap();
+    let mut lines = answers.lines();
+    let mut count = 0;
     for load in loads.chunks_exact(512) {
         let number = |at: usize| u32::from_be_bytes(load[at..at + 4].try_into().unwrap());
         let size = |at: usize, flag: u8| {
@@ -644,29 +569,12 @@ fn for_stored_loads(mut each: impl FnMut(&[u8], Option<Size>, Option<Size>, &[u8
         let model_len = load[17] as usize;
         let block_len = u16::from_be_bytes([load[18], load[19]]) as usize;
         let (model, rest) = load[20..].split_at(model_len);
-        each(&rest[..block_len], size(1, 1), size(9, 2), model);
+        assert_eq!(
+            line_of(photograph(&rest[..block_len], size(1, 1), size(9, 2), model)),
+            lines.next().unwrap()
+        );
+        count += 1;
     }
-    loads.len() / 512
-}
-
-#[test]
-fn stored_loads_are_answered_as_by_the_original() {
-    let answers = String::from_utf8(stored("crates/placing_test/stdout")).unwrap();
-    let mut lines = answers.lines();
-    let count = for_stored_loads(|block, raw, picture, model| {
-        assert_eq!(line_of(photograph(block, raw, picture, model)), lines.next().unwrap());
-    });
     assert_eq!(lines.next(), None);
     println!("{count} loads");
-}
-
-#[test]
-fn stored_loads_are_reported_as_they_are_listed() {
-    // Each answer is among them; 13 comes of the short buffers.
-    let mut answers = [0; 7];
-    let count = for_stored_loads(|block, raw, picture, model| {
-        answers[expect_report(block, raw, picture, model) as usize] += 1;
-    });
-    assert!(answers.iter().all(|&n| n > 0));
-    println!("{count} reports, by their numbers {answers:?}");
 }

@@ -10,14 +10,13 @@ use lib.Seq.{take-suc, take_all, take-add, drop-drop, get_or-drop, length-take-l
 use native.Mathlib.Omega.{arith}
 use native.Mathlib.Nat.{add-zero}
 use borrow.Author.Tests.{leb-true, eqb-true}
-use Rattle.numbers.specs.Bytes.{AreBytes}
 use Rattle.numbers.specs.Numbers.{u16_of, u32_of}
 use Rattle.numbers.specs.declared.io.ByteOrder.TheVariants.{Big}
-use Rattle.numbers.proofs.Bytes.{bytes_from, u32_small}
 use Rattle.reading.specs.Outcome.{Outcome, refused, accepted}
 use Rattle.reading.specs.declared.geometry.Size.{Size}
 use Rattle.laws.proofs.Tests.{by_cond, both}
 use Rattle.hex.specs.Hex.{sum, checks}
+use Rattle.hex.specs.Laws.{AreBytes}
 use Rattle.calls.specs.Format.{LineCall, line_load, line_back, line_list, of_length, u32_at, sides_at, sides_agree, optional, has_raw, has_picture, flags, model_length, well_formed_load, load_call, cut_call, fit_call, contents_call, orient_call, by_code, call_of, model_part, block_part, contents_part, model_given, block_given}
 use Rattle.calls.specs.Laws.{four_bytes, size_bytes, is_given, flag_byte, sides_of, body, check_of, checked, Number, SizeNumbers, Encodable, Encodes, EncodedOrMalformed, is_malformed, is_encoded, ReadIsEncoded}
 use Rattle.calls.proofs.Encoded.{sum_snoc}
@@ -39,8 +38,13 @@ module _ (a b c d : ℕ) (ha : a < 256) (hb : b < 256) (hc : c < 256) (hd : d < 
   byte_4 : joined % 256 ≡ d
   byte_4 = omega arith
 
+  pub number_small : joined < 4294967296
+  number_small = omega arith
+
 number_of : (s : List ℕ) → AreBytes s → Number (u32_of Big s)
-number_of s h = omega (arith, u32_small Big s h)
+unfolding u32_of u16_of
+number_of s h = number_small (get_or s 0 0) (get_or s 1 0) (get_or (drop 2 s) 0 0) (get_or (drop 2 s) 1 0) (h 0) (h 1)
+    (rw (get_or-drop 2 s 0 0) (h 2)) (rw (get_or-drop 2 s 1 0) (h 3))
 
 four_of : (s : List ℕ) → AreBytes s → 4 ≤ length s → four_bytes (u32_of Big s) ≡ take 4 s
 unfolding four_bytes u32_of u16_of
@@ -77,6 +81,9 @@ module _ (b : List ℕ) (h : AreBytes b) (some : 1 ≤ length b) where
       rw y (sym z)
 
 -- ---- the parts at their places
+pub bytes_from : (b : List ℕ) → AreBytes b → (n : ℕ) → AreBytes (drop n b)
+bytes_from b h n i = rw (get_or-drop n b i 0) (h (n + i))
+
 -- one part more
 grow : (b : List ℕ) (n m : ℕ) (x y : List ℕ) → x ≡ take n b → y ≡ take m (drop n b) → x ++ y ≡ take (n + m) b
 grow b n m x y ex ey = rw (ex, ey, take-add n m b)

@@ -1,12 +1,12 @@
 -- The format the other way round: how a call is encoded in bytes. The calls that are read are exactly those that are encoded, which
 -- proofs/Encoded.antt (what is encoded is read back, and is bytes) and proofs/Accepted.antt (what is read was encoded so) prove.
 use Rattle.std.specs.Prelude.{ℕ, ◌+◌, ◌-◌, ◌/◌, ◌%◌, ◌<◌, Bool, true, false, cond, List, [], ◌∷◌, ◌++◌, ◌≡◌, length}
-use Rattle.numbers.specs.Bytes.{AreBytes}
 use Rattle.reading.specs.Outcome.{Outcome, refused, accepted}
 use Rattle.reading.specs.declared.geometry.Size.{Size}
 use Rattle.reading.specs.declared.geometry.OptionalSize.{OptionalSize}
 use Rattle.reading.specs.declared.geometry.OptionalSize.TheVariants.{Missing, Given}
 use Rattle.hex.specs.Hex.{sum}
+use Rattle.hex.specs.Laws.{AreBytes}
 use Rattle.calls.specs.Format.{LineCall, line_load, line_cut, line_back, line_list, line_fit, line_contents, line_orient, call_of, model_given, block_given}
 
 -- ---- a call's bytes

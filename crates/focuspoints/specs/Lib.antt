@@ -1,6 +1,5 @@
 pub mod Buffer
 pub mod Photograph
-pub mod ReportOf
 pub mod Script
 pub mod Contents
 pub mod Laws

@@ -1,24 +1,22 @@
-// A library for C and Rust: one photograph's focus points, its report, a whole script of call lines, and a note's contents. What is exported
-// takes numbers, slices (a pointer and a length each) and a place for a number (a pointer), and asks nothing of what they hold.
+// A library for C and Rust: one photograph's focus points, a whole script of call lines, and a note's contents. What is exported takes
+// numbers and slices (a pointer and a length each) and asks nothing of what they hold.
 ghost use Rattle.std.specs.Prelude.{◌≡◌, ◌∷◌, ◌+◌, ◌*◌, ◌≤◌, length};
 ghost use Rattle.reading.specs.Contents.{contents_of};
 ghost use Rattle.placing.specs.Focus.{focus_of};
 ghost use Rattle.sheet.specs.Listing.{over, head_numbers};
 ghost use Rattle.script.specs.Script.{script_text, buffer_with};
 ghost use Rattle.focuspoints.specs.Photograph.{given_size, Photographed};
-ghost use Rattle.focuspoints.specs.ReportOf.{Reported};
 ghost use Rattle.focuspoints.specs.Script.{script_length};
 ghost use Rattle.focuspoints.specs.Contents.{ContentsTold};
 ghost use Rattle.focuspoints.specs.Buffer.{room_number, with_numbers};
-ghost use Rattle.focuspoints.specs.Inside.{laid_numbers, laid_shown, ReportTold};
+ghost use Rattle.focuspoints.specs.Inside.{laid_numbers};
 ghost use Rattle.placing.specs.Laid.{focus_means};
 
 use placing::load::{FocusAnswer, FocusPoints};
 use reading::geometry::{OptionalSize, Size};
 use reading::nikon::ContentsAnswer;
-use report::ReportAnswer;
 use script::Answered;
-use sheet::listing::{ListHead, Present};
+use sheet::listing::ListHead;
 
 // A size that is given where the first number is not 0.
 fn given_size(given: u32, width: u32, height: u32) -> OptionalSize
@@ -95,63 +93,6 @@ pub extern "C" fn focuspoints_photograph(
     match answer {
         FocusAnswer::Refused(why) => placing::load::refusal_number(why),
         FocusAnswer::Accepted => put_listing(focus, out),
-    }
-}
-
-// The report of a load's points, where it has room: the text, and how many bytes it has.
-fn put_report(focus: FocusPoints, out: &mut [u8], written: &mut usize) -> u32
-    ensures { ReportTold (laid_shown (focus_means focus).1) out.old written.old result out.new written.new }
-{
-    let frame = focus.frame;
-    let mode = focus.area_mode;
-    let origin = focus.origin;
-    let head = ListHead {
-        frame,
-        count: focus.count,
-        index: focus.primary,
-        mode,
-        origin,
-    };
-    let points = focus.points;
-    let present = Present {
-        shown: true,
-        head,
-        points,
-    };
-    match report::write_report(present, out) {
-        ReportAnswer::Empty => 7,
-        ReportAnswer::Short => 13,
-        ReportAnswer::Written(n) => {
-            *written = n;
-            0
-        }
-    }
-}
-
-// One photograph's report: 01's number where there are no points, 13 where the buffer is too short for the text, and 0 with the text at the
-// buffer's front and its number of bytes in `written`.
-#[unsafe(no_mangle)]
-pub extern "C" fn focuspoints_report(
-    block: &[u8],
-    raw_given: u32,
-    raw_width: u32,
-    raw_height: u32,
-    picture_given: u32,
-    picture_width: u32,
-    picture_height: u32,
-    model: &[u8],
-    out: &mut [u8],
-    written: &mut usize,
-) -> u32
-    ensures { Reported (focus_of block.now (given_size raw_given raw_width raw_height) (given_size picture_given picture_width picture_height) model.now) out.old written.old result out.new written.new }
-{
-    let raw = given_size(raw_given, raw_width, raw_height);
-    let picture = given_size(picture_given, picture_width, picture_height);
-    let focus = placing::nikon::focus(block, raw, picture, model);
-    let answer = focus.answer;
-    match answer {
-        FocusAnswer::Refused(why) => placing::load::refusal_number(why),
-        FocusAnswer::Accepted => put_report(focus, out, written),
     }
 }
 

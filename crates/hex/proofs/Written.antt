@@ -5,9 +5,8 @@ use Rattle.std.proofs.Common.{◌≡◌, ℕ, zero, suc, ◌+◌, ◌-◌, ◌*�
 use lib.ListN.{length-map}
 use borrow.Author.Tests.{lt-leb}
 use Rattle.laws.proofs.Tests.{by_cond, both, by_order}
-use Rattle.numbers.specs.Bytes.{AreBytes}
 use Rattle.hex.specs.Hex.{within, digit_of, is_hex_digit, all_digits, well_formed, half_of, bytes_of}
-use Rattle.hex.specs.Laws.{digit_for, line_of, WrittenIsRead, upper, upper_line, EitherCase, ReadIsBytes, ReadIsWritten}
+use Rattle.hex.specs.Laws.{AreBytes, digit_for, line_of, WrittenIsRead, upper, upper_line, EitherCase, ReadIsBytes, ReadIsWritten}
 use Rattle.hex.proofs.Laws.{half_in, well_digits}
 
 -- ---- the ranges of characters

@@ -1,8 +1,11 @@
 -- Lines the other way round: how bytes are written as a line, and the case of its letters. The lines that are read are exactly those
 -- that are written, in either case, which proofs/Written.antt proves.
-use Rattle.std.specs.Prelude.{◌≡◌, ℕ, ◌+◌, ◌-◌, ◌/◌, ◌%◌, ◌≤◌, true, cond, List, [], ◌∷◌, ◌++◌, map, length, nat_lt}
-use Rattle.numbers.specs.Bytes.{AreBytes}
+use Rattle.std.specs.Prelude.{◌≡◌, ℕ, ◌+◌, ◌-◌, ◌/◌, ◌%◌, ◌<◌, ◌≤◌, true, cond, List, [], ◌∷◌, ◌++◌, map, length, nat_lt, slice_index}
 use Rattle.hex.specs.Hex.{within, well_formed, bytes_of}
+
+-- a list of numbers below 256
+abbrev pub AreBytes : List ℕ → Type 0
+AreBytes b = (i : ℕ) → slice_index b i < 256
 
 -- ---- a line of bytes
 -- the digit of four bits, `0` to `9` or `A` to `F`

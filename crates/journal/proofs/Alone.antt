@@ -14,15 +14,14 @@ use Rattle.sheet.specs.declared.Sheet.{Sheet}
 use Rattle.sheet.specs.Sheet.{load_sheet}
 use Rattle.workspace.specs.declared.Workspace.{Workspace}
 use Rattle.workspace.specs.Names.{is_bad_name}
-use Rattle.workspace.specs.Workspace.{without_names, fresh_workspace, load_in, is_counted, edit_in, view_in, list_outcome_in, list_buffer_in, fit_outcome_in, fit_buffer_in}
-use Rattle.report.specs.Laws.{Each}
+use Rattle.workspace.specs.Workspace.{without_names, fresh_workspace, load_in, is_counted, edit_in, list_outcome_in, list_buffer_in, fit_outcome_in, fit_buffer_in}
 use Rattle.journal.specs.Journal.{Change, Journal, empty, holds, Answer, no, ended, change_refusal, back_refusal, journal_load, journal_change, journal_back}
-use Rattle.journal.specs.Calls.{Call, load, change, back, list, fit, report, journal_step, journal_after}
+use Rattle.journal.specs.Calls.{Call, load, change, back, list, fit, journal_step, journal_after}
 use Rattle.journal.specs.SheetCalls.{after_edit, sheet_step, run_sheet}
 use Rattle.journal.specs.Claim.{after}
 use Rattle.journal.specs.WorkspaceJournal.{NamedEdits, WorkspaceJournal, with, empty_in, kept_under, keep_under, WorkspaceCall, on_sheet, keep, return, names_after, journal_sheet, keep_refusal, journal_keep, returned, journal_return, journal_step_in, journal_after_in}
 use Rattle.journal.specs.WorkspaceCalls.{sheet_step_in, workspace_step, run_workspace}
-use Rattle.journal.specs.WorkspaceClaim.{sheet_calls, SheetAlone, SheetsOwnCalls, AsSheet, AsSomeSheet, PrimaryIsListedIn, ListsExactlyIn}
+use Rattle.journal.specs.WorkspaceClaim.{SheetAlone, SheetsOwnCalls, AsSomeSheet, PrimaryIsListedIn, ListsExactlyIn}
 use Rattle.journal.proofs.Answers.{answers, after-append}
 use Rattle.journal.proofs.Shown.{lists_exactly, primary_is_listed}
 use Rattle.journal.proofs.WorkspaceAgrees.{answers_in, after_snoc}
@@ -39,13 +38,12 @@ load_part w k (refused n) = record { answer = refl; sheet = refl; counted = k }
 load_part w k (accepted f) = record { answer = refl; sheet = refl; counted = refl }
 
 sheet_part : (w : Workspace) → is_counted w ≡ true → (c : Call) → Part (sheet_step_in w c) (sheet_step w.sheet c)
-unfolding sheet_step_in sheet_step edit_in view_in list_outcome_in list_buffer_in fit_outcome_in fit_buffer_in
+unfolding sheet_step_in sheet_step edit_in list_outcome_in list_buffer_in fit_outcome_in fit_buffer_in
 sheet_part w k (load block raw picture model) = load_part w k (focus_of block raw picture model)
 sheet_part w k (change c) = rw k (record { answer = refl; sheet = refl; counted = k })
 sheet_part w k back = rw k (record { answer = refl; sheet = refl; counted = k })
 sheet_part w k (list buffer) = rw k (record { answer = refl; sheet = refl; counted = k })
 sheet_part w k (fit box buffer) = rw k (record { answer = refl; sheet = refl; counted = k })
-sheet_part w k (report buffer) = rw k (record { answer = refl; sheet = refl; counted = k })
 
 alone_from : (cs : List Call) (w : Workspace) → is_counted w ≡ true → run_workspace w (map on_sheet cs) ≡ run_sheet w.sheet cs
 unfolding run_workspace run_sheet workspace_step
@@ -67,151 +65,124 @@ sheets_own_calls calls c = record {
 }
 
 -- ---- what a sheet's calls alone lead to
--- by calls such as P, where all calls of the workspace are such
-record Reached (P : Call → Type 0) (j : Journal) : Type 0 where
+record Reached (j : Journal) : Type 0 where
   by_calls : List Call
-  such : Each P by_calls
   reaches : after by_calls ≡ j
 
-each_more : (P : Call → Type 0) (cs : List Call) (c : Call) → Each P cs → P c → Each P (cs ++ c ∷ [])
-each_more P [] c h p = (p, tt)
-each_more P (d ∷ cs) c h p = (h.0, each_more P cs c h.1 p)
+step_reached : (j : Journal) (c : Call) → Reached j → Reached (journal_step j c).1
+unfolding journal_after
+step_reached j c r = record {
+  by_calls = r.by_calls ++ c ∷ [];
+  reaches = after-append empty r.by_calls (c ∷ []) ∙ ap (λ (k : Journal). (journal_step k c).1) r.reaches;
+}
 
-module _ (P : Call → Type 0) where
-  step_reached : (j : Journal) (c : Call) → P c → Reached P j → Reached P (journal_step j c).1
-  unfolding journal_after
-  step_reached j c p r = record {
-    by_calls = r.by_calls ++ c ∷ [];
-    such = each_more P r.by_calls c r.such p;
-    reaches = after-append empty r.by_calls (c ∷ []) ∙ ap (λ (k : Journal). (journal_step k c).1) r.reaches;
-  }
+-- the journal of a load with any of the kept edits
+abbrev RowsReached : Focus → List NamedEdits → Type 0
+RowsReached f [] = Unit
+RowsReached f (k ∷ ks) = Reached (holds f k.edits) × RowsReached f ks
 
-  -- the journal of a load with any of the kept edits
-  abbrev RowsReached : Focus → List NamedEdits → Type 0
-  RowsReached f [] = Unit
-  RowsReached f (k ∷ ks) = Reached P (holds f k.edits) × RowsReached f ks
+abbrev NamesReached : Journal → List NamedEdits → Type 0
+NamesReached empty ks = Unit
+NamesReached (holds f standing) ks = RowsReached f ks
 
-  abbrev NamesReached : Journal → List NamedEdits → Type 0
-  NamesReached empty ks = Unit
-  NamesReached (holds f standing) ks = RowsReached f ks
+abbrev AllReached : WorkspaceJournal → Type 0
+AllReached w = Reached w.journal × NamesReached w.journal w.names
 
-  abbrev AllReached : WorkspaceJournal → Type 0
-  AllReached w = Reached P w.journal × NamesReached w.journal w.names
+-- ---- a call of the sheet leaves the names what they are, or clears them
+ended_names : (o : Option ℕ) (f : Focus) (row more : List Change) (ks : List NamedEdits) → RowsReached f ks
+    → NamesReached (ended o (holds f row) (holds f more)).1 ks
+ended_names none f row more ks r = r
+ended_names (some n) f row more ks r = r
 
-  -- ---- a call of the sheet leaves the names what they are, or clears them
-  ended_names : (o : Option ℕ) (f : Focus) (row more : List Change) (ks : List NamedEdits) → RowsReached f ks
-      → NamesReached (ended o (holds f row) (holds f more)).1 ks
-  ended_names none f row more ks r = r
-  ended_names (some n) f row more ks r = r
+load_names : (j : Journal) (o : Outcome Focus) (ks : List NamedEdits) → NamesReached j ks
+    → NamesReached (journal_load j o).1 (cond (is_accepted (journal_load j o).0.outcome) [] ks)
+unfolding journal_load
+load_names j (refused n) ks r = r
+load_names j (accepted f) ks r = tt
 
-  load_names : (j : Journal) (o : Outcome Focus) (ks : List NamedEdits) → NamesReached j ks
-      → NamesReached (journal_load j o).1 (cond (is_accepted (journal_load j o).0.outcome) [] ks)
-  unfolding journal_load
-  load_names j (refused n) ks r = r
-  load_names j (accepted f) ks r = tt
+sheet_names : (j : Journal) (ks : List NamedEdits) (c : Call) → NamesReached j ks
+    → NamesReached (journal_step j c).1 (names_after c (journal_step j c).0 ks)
+unfolding journal_step journal_change journal_back
+sheet_names j ks (load block raw picture model) r = load_names j (focus_of block raw picture model) ks r
+sheet_names empty ks (change c) r = tt
+sheet_names (holds f row) ks (change c) r = ended_names (change_refusal f row c) f row _ ks r
+sheet_names empty ks back r = tt
+sheet_names (holds f row) ks back r = ended_names (back_refusal row) f row _ ks r
+sheet_names j ks (list b) r = r
+sheet_names j ks (fit box b) r = r
 
-  sheet_names : (j : Journal) (ks : List NamedEdits) (c : Call) → NamesReached j ks
-      → NamesReached (journal_step j c).1 (names_after c (journal_step j c).0 ks)
-  unfolding journal_step journal_change journal_back
-  sheet_names j ks (load block raw picture model) r = load_names j (focus_of block raw picture model) ks r
-  sheet_names empty ks (change c) r = tt
-  sheet_names (holds f row) ks (change c) r = ended_names (change_refusal f row c) f row _ ks r
-  sheet_names empty ks back r = tt
-  sheet_names (holds f row) ks back r = ended_names (back_refusal row) f row _ ks r
-  sheet_names j ks (list b) r = r
-  sheet_names j ks (fit box b) r = r
-  sheet_names j ks (report b) r = r
+-- ---- keep and return
+keep_rows : (f : Focus) (name : List ℕ) (row : List Change) (ks : List NamedEdits) → Reached (holds f row) → RowsReached f ks
+    → RowsReached f (keep_under name row ks)
+unfolding keep_under
+keep_rows f name row [] q r = (q, tt)
+keep_rows f name row (k ∷ ks) q r = by (keep_rows f name row ks q r.1) (same k.name name)
+  where
+    by : RowsReached f (keep_under name row ks) → (b : Bool)
+        → RowsReached f (cond b (record { name = name; edits = row } ∷ ks) (k ∷ keep_under name row ks))
+    by s true = (q, r.1)
+    by s false = (r.0, s)
 
-  -- ---- keep and return
-  keep_rows : (f : Focus) (name : List ℕ) (row : List Change) (ks : List NamedEdits) → Reached P (holds f row) → RowsReached f ks
-      → RowsReached f (keep_under name row ks)
-  unfolding keep_under
-  keep_rows f name row [] q r = (q, tt)
-  keep_rows f name row (k ∷ ks) q r = by (keep_rows f name row ks q r.1) (same k.name name)
-    where
-      by : RowsReached f (keep_under name row ks) → (b : Bool)
-          → RowsReached f (cond b (record { name = name; edits = row } ∷ ks) (k ∷ keep_under name row ks))
-      by s true = (q, r.1)
-      by s false = (r.0, s)
+keep_reached : (j : Journal) (ks : List NamedEdits) (name : List ℕ) → AllReached (with j ks) → AllReached (journal_keep j ks name).1
+unfolding journal_keep keep_refusal
+keep_reached empty ks name r = r
+keep_reached (holds f row) ks name r = by (keep_refusal name ks)
+  where
+    by : (o : Option ℕ) → AllReached (ended o (with (holds f row) ks) (with (holds f row) (keep_under name row ks))).1
+    by none = (r.0, keep_rows f name row ks r.0 r.1)
+    by (some n) = r
 
-  keep_reached : (j : Journal) (ks : List NamedEdits) (name : List ℕ) → AllReached (with j ks) → AllReached (journal_keep j ks name).1
-  unfolding journal_keep keep_refusal
-  keep_reached empty ks name r = r
-  keep_reached (holds f row) ks name r = by (keep_refusal name ks)
-    where
-      by : (o : Option ℕ) → AllReached (ended o (with (holds f row) ks) (with (holds f row) (keep_under name row ks))).1
-      by none = (r.0, keep_rows f name row ks r.0 r.1)
-      by (some n) = r
+abbrev IfReached : Focus → Option (List Change) → Type 0
+IfReached f none = Unit
+IfReached f (some edits) = Reached (holds f edits)
 
-  abbrev IfReached : Focus → Option (List Change) → Type 0
-  IfReached f none = Unit
-  IfReached f (some edits) = Reached P (holds f edits)
+row_reached : (f : Focus) (name : List ℕ) (ks : List NamedEdits) → RowsReached f ks → IfReached f (kept_under name ks)
+unfolding kept_under
+row_reached f name [] r = tt
+row_reached f name (k ∷ ks) r = by (row_reached f name ks r.1) (same k.name name)
+  where
+    by : IfReached f (kept_under name ks) → (b : Bool) → IfReached f (cond b (some k.edits) (kept_under name ks))
+    by s true = r.0
+    by s false = s
 
-  row_reached : (f : Focus) (name : List ℕ) (ks : List NamedEdits) → RowsReached f ks → IfReached f (kept_under name ks)
-  unfolding kept_under
-  row_reached f name [] r = tt
-  row_reached f name (k ∷ ks) r = by (row_reached f name ks r.1) (same k.name name)
-    where
-      by : IfReached f (kept_under name ks) → (b : Bool) → IfReached f (cond b (some k.edits) (kept_under name ks))
-      by s true = r.0
-      by s false = s
+return_reached : (j : Journal) (ks : List NamedEdits) (name : List ℕ) → AllReached (with j ks) → AllReached (journal_return j ks name).1
+unfolding journal_return
+return_reached empty ks name r = r
+return_reached (holds f row) ks name r = by (is_bad_name name) (kept_under name ks) (row_reached f name ks r.1)
+  where
+    by : (a : Bool) (o : Option (List Change)) → IfReached f o
+        → AllReached (cond a (no 16 [], with (holds f row) ks) (returned o f row ks)).1
+    by true o q = r
+    by false none q = r
+    by false (some edits) q = (q, r.1)
 
-  return_reached : (j : Journal) (ks : List NamedEdits) (name : List ℕ) → AllReached (with j ks) → AllReached (journal_return j ks name).1
-  unfolding journal_return
-  return_reached empty ks name r = r
-  return_reached (holds f row) ks name r = by (is_bad_name name) (kept_under name ks) (row_reached f name ks r.1)
-    where
-      by : (a : Bool) (o : Option (List Change)) → IfReached f o
-          → AllReached (cond a (no 16 [], with (holds f row) ks) (returned o f row ks)).1
-      by true o q = r
-      by false none q = r
-      by false (some edits) q = (q, r.1)
+-- ---- any call, any list of calls
+one_call : (w : WorkspaceJournal) (c : WorkspaceCall) → AllReached w → AllReached (journal_step_in w c).1
+unfolding journal_step_in journal_sheet
+one_call w (on_sheet c) r = (step_reached w.journal c r.0, sheet_names w.journal w.names c r.1)
+one_call w (keep name) r = keep_reached w.journal w.names name r
+one_call w (return name) r = return_reached w.journal w.names name r
 
-  -- ---- any call, any list of calls
-  one_call : (w : WorkspaceJournal) (c : WorkspaceCall) → Each P (sheet_calls (c ∷ [])) → AllReached w → AllReached (journal_step_in w c).1
-  unfolding journal_step_in journal_sheet sheet_calls
-  one_call w (on_sheet c) p r = (step_reached w.journal c p.0 r.0, sheet_names w.journal w.names c r.1)
-  one_call w (keep name) p r = keep_reached w.journal w.names name r
-  one_call w (return name) p r = return_reached w.journal w.names name r
+all_reached : (cs : List WorkspaceCall) (w : WorkspaceJournal) → AllReached w → AllReached (journal_after_in w cs)
+unfolding journal_after_in
+all_reached [] w r = r
+all_reached (c ∷ cs) w r = all_reached cs (journal_step_in w c).1 (one_call w c r)
 
-  all_reached : (cs : List WorkspaceCall) (w : WorkspaceJournal) → Each P (sheet_calls cs) → AllReached w → AllReached (journal_after_in w cs)
-  unfolding journal_after_in sheet_calls
-  all_reached [] w p r = r
-  all_reached (on_sheet c ∷ cs) w p r = all_reached cs (journal_step_in w (on_sheet c)).1 p.1 (one_call w (on_sheet c) (p.0, tt) r)
-  all_reached (keep name ∷ cs) w p r = all_reached cs (journal_step_in w (keep name)).1 p (one_call w (keep name) tt r)
-  all_reached (return name ∷ cs) w p r = all_reached cs (journal_step_in w (return name)).1 p (one_call w (return name) tt r)
-
-  none_yet : AllReached empty_in
-  unfolding journal_after
-  none_yet = (record { by_calls = []; such = tt; reaches = refl }, tt)
-
-  -- by calls that are such as all of the workspace's
-  pub record AsSheetBy (calls : List WorkspaceCall) : Type 0 where
-    pub as_sheet : AsSheet calls
-    pub by_such : Each P as_sheet.alone
-
-  pub as_sheet_by : (calls : List WorkspaceCall) → Each P (sheet_calls calls) → AsSheetBy calls
-  as_sheet_by calls p =
-      let r = (all_reached calls empty_in p none_yet).0 in
-      record {
-        as_sheet =
-            record {
-              alone = r.by_calls;
-              same_journal = r.reaches;
-              same_answers = λ c.
-                  (sheets_own_calls calls c).answers
-                  ∙ ap (λ (j : Journal). (journal_step j c).0) (sym r.reaches)
-                  ∙ sym (answers r.by_calls c);
-            };
-        by_such = r.such;
-      }
-
-any_calls : (cs : List Call) → Each (λ c. Unit) cs
-any_calls [] = tt
-any_calls (c ∷ cs) = (tt, any_calls cs)
+none_yet : AllReached empty_in
+unfolding journal_after
+none_yet = (record { by_calls = []; reaches = refl }, tt)
 
 pub as_some_sheet : AsSomeSheet
-as_some_sheet calls = (as_sheet_by (λ c. Unit) calls (any_calls (sheet_calls calls))).as_sheet
+as_some_sheet calls =
+    let r = (all_reached calls empty_in none_yet).0 in
+    record {
+      alone = r.by_calls;
+      same_journal = r.reaches;
+      same_answers = λ c.
+          (sheets_own_calls calls c).answers
+          ∙ ap (λ (j : Journal). (journal_step j c).0) (sym r.reaches)
+          ∙ sym (answers r.by_calls c);
+    }
 
 pub primary_is_listed_in : PrimaryIsListedIn
 primary_is_listed_in calls f standing e =

@@ -13,18 +13,16 @@ use Rattle.reading.specs.Outcome.{Outcome, refused, accepted, is_accepted}
 use Rattle.placing.specs.Focus.{focus_of}
 use Rattle.placing.specs.Load.{Focus}
 use Rattle.sheet.specs.Sheet.{leaves, kept_by, usable}
-use Rattle.sheet.specs.View.{shown_by, laid_view}
-use Rattle.report.specs.Report.{report_outcome, report_buffer}
 use Rattle.workspace.specs.declared.Workspace.{Workspace}
 use Rattle.workspace.specs.Names.{is_bad_name}
-use Rattle.workspace.specs.Workspace.{fresh_workspace, load_in, with_sheet, is_counted, edit_in, list_outcome_in, list_buffer_in, fit_outcome_in, fit_buffer_in, if_named, place_of, keep_at, keep_in, return_at, return_in, view_in, present_in}
+use Rattle.workspace.specs.Workspace.{fresh_workspace, load_in, with_sheet, is_counted, edit_in, list_outcome_in, list_buffer_in, fit_outcome_in, fit_buffer_in, if_named, place_of, keep_at, keep_in, return_at, return_in}
 use Rattle.journal.specs.Journal.{Answer, journal_load}
-use Rattle.journal.specs.Calls.{Call, load, change, back, list, fit, report, lent, journal_step}
+use Rattle.journal.specs.Calls.{Call, load, change, back, list, fit, lent, journal_step}
 use Rattle.journal.specs.SheetCalls.{after_edit, sheet_step}
 use Rattle.journal.specs.WorkspaceJournal.{WorkspaceCall, on_sheet, keep, return, lent_in, journal_sheet, journal_step_in, run_journal_in}
 use Rattle.journal.specs.WorkspaceCalls.{sheet_step_in, workspace_step, run_workspace}
 use Rattle.journal.specs.WorkspaceClaim.{RefusedKeepsIn, LoadOnAnyIn, UncountedIsEmpty}
-use Rattle.journal.proofs.Kept.{refused_keeps, reports}
+use Rattle.journal.proofs.Kept.{refused_keeps}
 use Rattle.journal.proofs.WorkspaceAgrees.{workspace_claim}
 
 -- ---- a refused call
@@ -57,7 +55,6 @@ keeps_sheet w (list buffer) (inl e) = rw e (keeps_through w (list buffer))
 keeps_sheet w (list buffer) (inr e) = rw e (inr (refl, refl))
 keeps_sheet w (fit box buffer) (inl e) = rw e (keeps_through w (fit box buffer))
 keeps_sheet w (fit box buffer) (inr e) = rw e (inr (refl, refl))
-keeps_sheet w (report buffer) k = reports (present_in w) buffer w
 
 named_keeps : (w : Workspace) (name : List ℕ) (x : Outcome (List ℕ) × Workspace) → Keeps (after_edit x) w [] → Keeps (after_edit (if_named w name x)) w []
 unfolding if_named
@@ -99,12 +96,11 @@ load_on_any_in w block raw picture model f e calls =
     ∙ rw e
 
 pub uncounted_is_empty : UncountedIsEmpty
-unfolding workspace_step sheet_step_in edit_in view_in laid_view shown_by report_outcome report_buffer list_outcome_in list_buffer_in fit_outcome_in fit_buffer_in keep_in return_in if_named
+unfolding workspace_step sheet_step_in edit_in list_outcome_in list_buffer_in fit_outcome_in fit_buffer_in keep_in return_in if_named
 uncounted_is_empty w (on_sheet (load block raw picture model)) h e = absurd (false≢true (sym e))
 uncounted_is_empty w (on_sheet (change c)) h e = rw (lt-leb w.count 8 h)
 uncounted_is_empty w (on_sheet back) h e = rw (lt-leb w.count 8 h)
 uncounted_is_empty w (on_sheet (list buffer)) h e = rw (lt-leb w.count 8 h)
 uncounted_is_empty w (on_sheet (fit box buffer)) h e = rw (lt-leb w.count 8 h)
-uncounted_is_empty w (on_sheet (report buffer)) h e = rw (lt-leb w.count 8 h)
 uncounted_is_empty w (keep name) h e = rw (lt-leb w.count 8 h)
 uncounted_is_empty w (return name) h e = rw (lt-leb w.count 8 h)

@@ -34,16 +34,14 @@ use Rattle.sheet.specs.Place.{words_of, moved, placed, is_good_cut}
 use Rattle.sheet.specs.Sheet.{leaves, kept_by, fresh_sheet, loaded_sheet, load_sheet, usable, placed_at, present_frame as frame_of, with_edits, add_edit, if_open, orient_to, orient_sheet, keeps_primary, cut_sheet, back_sheet}
 use Rattle.sheet.specs.Listing.{head_numbers, flat}
 use Rattle.sheet.specs.Lists.{listing as sheetListing, list_count, list_index, is_short, head_in, list_outcome, list_buffer, scaled_all, outcome_in_box, buffer_in_box, fit_outcome, fit_buffer}
-use Rattle.sheet.specs.View.{view_of, present_of}
 use Rattle.sheet.proofs.Buffer.{flat_length}
-use Rattle.sheet.proofs.Presented.{shows_the_view}
 use Rattle.placing.proofs.Places.{length_places, take_places}
 use Rattle.sheet.proofs.OrientationNumbers.{stands_for_one}
 use Rattle.sheet.proofs.Words.{stored_last}
-use Rattle.journal.specs.Journal.{Change, cut, orient, Journal, empty, holds, frame_after, still_listed, listed, present_frame, listing, primary_index, primary_after, fit_box, fitted, Answer, no, ok, ended, head, is_bad_cut, is_outside, is_full, change_refusal, back_refusal, journal_load, journal_change, journal_back, numbers, written, journal_list, answer_in_box, journal_fit, journal_view, journal_report}
-use Rattle.journal.specs.Calls.{Call, load, change, back, list, fit, report, journal_step, run_journal, journal_after}
-use Rattle.journal.specs.SheetCalls.{after_edit, after_list, after_report, changed, sheet_step, run_sheet, sheet_after}
-use Rattle.journal.specs.Claim.{Claim, SameView}
+use Rattle.journal.specs.Journal.{Change, cut, orient, Journal, empty, holds, frame_after, still_listed, listed, present_frame, listing, primary_index, primary_after, fit_box, fitted, Answer, no, ok, ended, head, is_bad_cut, is_outside, is_full, change_refusal, back_refusal, journal_load, journal_change, journal_back, numbers, written, journal_list, answer_in_box, journal_fit}
+use Rattle.journal.specs.Calls.{Call, load, change, back, list, fit, journal_step, run_journal}
+use Rattle.journal.specs.SheetCalls.{after_edit, after_list, changed, sheet_step, run_sheet}
+use Rattle.journal.specs.Claim.{Claim}
 use Rattle.journal.proofs.Carry.{but_last}
 use Rattle.journal.proofs.Placed.{change_of, point_of, row_at, row_count, row_kept, placed_frame_lem, placed_more, placed_point, listed_to_is, flat_numbers}
 
@@ -293,23 +291,6 @@ fits : (s : Sheet) (h : Held s) (box : Size) (b : List ℕ)
 unfolding fit_outcome fit_buffer journal_fit
 fits s h box b = rw (present_frame_lem s) (boxes s h (fit_box (load_of s) (row_of s) box) b)
 
--- ---- what is shown, and what is made of it
-view_held : (s : Sheet) → Held s → view_of s ≡ journal_view (holds (load_of s) (row_of s))
-unfolding view_of journal_view
-view_held s h = rw (usable_held s h, present_frame_lem s, listed_held s h, index_held s h)
-
-view_blank : (s : Sheet) → s.loaded ≡ false → view_of s ≡ journal_view empty
-unfolding view_of journal_view
-view_blank s e = rw (usable_blank s e)
-
-pub view_is : (s : Sheet) → Good s → view_of s ≡ journal_view (journal_of s)
-view_is s (blank e) = view_blank s e ∙ ap journal_view (sym (journal_blank s e))
-view_is s (held h) = view_held s h ∙ ap journal_view (sym (journal_held s h))
-
-reports : (s : Sheet) (g : Good s) (b : List ℕ) → (after_report (present_of s) b s).0 ≡ journal_report (journal_of s) b
-unfolding journal_report
-reports s g b = rw (shows_the_view s, view_is s g)
-
 -- ---- load
 pub loads : (s : Sheet) (g : Good s) (o : Outcome Focus) → Sound o → Agree (after_edit (load_sheet s o)) (journal_load (journal_of s) o)
 unfolding load_sheet loaded_sheet journal_load
@@ -341,7 +322,6 @@ blank_step s e (change (orient n)) = rw (usable_blank s e, journal_blank s e) (r
 blank_step s e back = rw (usable_blank s e, journal_blank s e) (refl, refl, blank e)
 blank_step s e (list b) = rw (usable_blank s e, journal_blank s e) (refl, refl, blank e)
 blank_step s e (fit box b) = rw (usable_blank s e, journal_blank s e) (refl, refl, blank e)
-blank_step s e (report b) = (reports s (blank e) b, refl, blank e)
 
 held_step : (s : Sheet) (h : Held s) (c : Call) → AgreeAt s c
 unfolding sheet_step journal_step
@@ -351,7 +331,6 @@ held_step s h (change c) = rw (journal_held s h) (changes s h c)
 held_step s h back = rw (journal_held s h) (backs s h)
 held_step s h (list b) = rw (journal_held s h) (lists s h b, refl, held h)
 held_step s h (fit box b) = rw (journal_held s h) (fits s h box b, refl, held h)
-held_step s h (report b) = (reports s (held h) b, refl, held h)
 
 pub step : (s : Sheet) (g : Good s) (c : Call) → AgreeAt s c
 step s (blank e) c = blank_step s e c
@@ -366,23 +345,6 @@ runs (c ∷ cs) s g =
     ap₂ (λ (x : Answer) (xs : List Answer). x ∷ xs) a.0
     (runs cs (sheet_step s c).1 a.2 ∙ ap (λ (j : Journal). run_journal j cs) a.1)
 
-fresh : Good fresh_sheet
-unfolding fresh_sheet
-fresh = blank refl
-
 pub claim : Claim
 unfolding fresh_sheet
-claim calls = runs calls fresh_sheet fresh
-
--- the sheet after a list of calls is good, and stands for the journal after it
-stands : (cs : List Call) (s : Sheet) → Good s → Good (sheet_after s cs) × (journal_of (sheet_after s cs) ≡ journal_after (journal_of s) cs)
-unfolding sheet_after journal_after
-stands [] s g = (g, refl)
-stands (c ∷ cs) s g =
-    let a = step s g c in
-    let r = stands cs (sheet_step s c).1 a.2 in
-    (r.0, r.1 ∙ ap (λ (j : Journal). journal_after j cs) a.1)
-
-pub same_view : SameView
-unfolding fresh_sheet
-same_view calls = let r = stands calls fresh_sheet fresh in view_is (sheet_after fresh_sheet calls) r.0 ∙ ap journal_view r.1
+claim calls = runs calls fresh_sheet (blank refl)

@@ -1,4 +1,4 @@
--- 01's whole case, 02's page editor and its picture slip: the journal's answers are computed, and the claims give those of the sheet and of the workspace.
+-- 01's whole case, and 02's page editor: the journal's answers are computed, and the claims give those of the sheet and of the workspace.
 -- Assumes nothing.
 use mathlib.Core.Path.{refl, ◌∙◌}
 use Rattle.numbers.specs.Bytes.{same}
@@ -13,15 +13,11 @@ use Rattle.placing.specs.Named.{picture_is, uncropped, placed_frame, marked, fit
 use Rattle.placing.specs.Focus.{records_position, placed_of, focus_of}
 use Rattle.reading.specs.Note.{values_in, values_of}
 use Rattle.placing.specs.Load.{origin_number}
-use Rattle.sheet.specs.Listing.{six}
-use Rattle.text.specs.Number.{digits_in, digits_of}
-use Rattle.report.specs.Columns.{column, columns, line, lines_text}
-use Rattle.report.specs.Report.{head_row, rows_of, report_text, is_short_of, report_outcome, report_buffer}
 use Rattle.workspace.specs.Names.{is_bad_name}
-use Rattle.journal.specs.Journal.{frame_through, point_through, numbered_steps, frame_after, carried, listed, is_bad_cut, is_outside, journal_load, change_refusal, journal_change, back_refusal, journal_back, numbers, written, journal_list, journal_view, journal_report}
+use Rattle.journal.specs.Journal.{frame_through, point_through, numbered_steps, frame_after, carried, listed, is_bad_cut, is_outside, journal_load, change_refusal, journal_change, back_refusal, journal_back, numbers, written, journal_list}
 use Rattle.journal.specs.Calls.{journal_step, run_journal}
 use Rattle.journal.specs.WorkspaceJournal.{kept_under, keep_under, is_ninth, journal_sheet, keep_refusal, journal_keep, journal_return, journal_step_in, run_journal_in}
-use Rattle.journal.specs.Example.{whole_case, WholeCase, page_editor, PageEditor, slip_case, SlipCase}
+use Rattle.journal.specs.Example.{whole_case, WholeCase, page_editor, PageEditor}
 use Rattle.journal.proofs.Claim.{claim}
 use Rattle.journal.proofs.WorkspaceAgrees.{workspace_claim}
 
@@ -32,7 +28,3 @@ whole_case_lem = claim whole_case ∙ refl
 pub page_editor_lem : PageEditor
 unfolding same u16_of u32_of shorts_of offset_of entry_count directory_of in_order by_mark block_of size_of entry_of has_tag first_of find_of manual_focus_of crop_hi_speed_of crop_area_of layout_among layout_of area_mode_of mask_of size_at record_in record_of af_info2_of in_focus_number mode_number axis_fits has_zero_side center_lies_on area_fits no_area lies_on point_fits table_of picture_is uncropped placed_frame marked fits_window is_named is_listed listed_from has_number index_of placed_in window_of named_outcome records_position placed_of values_in values_of focus_of origin_number frame_through point_through numbered_steps frame_after carried listed is_bad_cut is_outside journal_load change_refusal journal_change back_refusal journal_back numbers written journal_list journal_step is_bad_name kept_under keep_under is_ninth journal_sheet keep_refusal journal_keep journal_return journal_step_in run_journal_in
 page_editor_lem = workspace_claim page_editor ∙ refl
-
-pub slip_case_lem : SlipCase
-unfolding same u16_of u32_of shorts_of offset_of entry_count directory_of in_order by_mark block_of size_of entry_of has_tag first_of find_of manual_focus_of crop_hi_speed_of crop_area_of layout_among layout_of area_mode_of mask_of size_at record_in record_of af_info2_of in_focus_number mode_number axis_fits has_zero_side center_lies_on area_fits no_area lies_on point_fits table_of picture_is uncropped placed_frame marked fits_window is_named is_listed listed_from has_number index_of placed_in window_of named_outcome records_position placed_of values_in values_of focus_of origin_number frame_through point_through numbered_steps frame_after carried listed is_bad_cut is_outside journal_load change_refusal journal_change journal_step run_journal journal_view journal_report six head_row rows_of report_text is_short_of report_outcome report_buffer digits_in digits_of column columns line lines_text
-slip_case_lem = claim slip_case ∙ refl

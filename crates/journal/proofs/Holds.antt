@@ -21,7 +21,7 @@ use Rattle.placing.specs.Load.{Focus, no_point}
 use Rattle.placing.specs.Sound.{Sound, SoundFocus, AllFit}
 use Rattle.placing.proofs.Sound.{focus_sound}
 use Rattle.journal.specs.Journal.{Change, cut, orient, Step, turn, mirror, frame_at, point_at, frame_through, point_through, numbered_steps, Journal, empty, holds, frame_by, point_by, stays_listed, frame_after, moved_by, carried, still_listed, if_listed, listed, present_frame, primary_of, primary_after, ended, is_bad_cut, own_refusal, change_refusal, back_refusal, journal_load, journal_change, journal_back}
-use Rattle.journal.specs.Calls.{Call, load, change, back, list, fit, report, journal_step, journal_after}
+use Rattle.journal.specs.Calls.{Call, load, change, back, list, fit, journal_step, journal_after}
 use Rattle.journal.specs.Claim.{after}
 use Rattle.journal.proofs.Carry.{carried_append, carried_snoc, carried_none}
 
@@ -61,7 +61,7 @@ cut_told true b e = let z : ◌≡◌ {A = ℕ} 0 1 = cc in absurd (omega arith)
 cut_told false true e = refl
 cut_told false false e = let z : ◌≡◌ {A = ℕ} 0 1 = cc in absurd (omega arith)
 
-pub full_told : (a : Bool) (o : Option ℕ) → cond a (some 8) o ≡ none → (a ≡ false) × (o ≡ none)
+full_told : (a : Bool) (o : Option ℕ) → cond a (some 8) o ≡ none → (a ≡ false) × (o ≡ none)
 full_told true o e = let z : ◌≡◌ {A = ℕ} 0 1 = cc in absurd (omega arith)
 full_told false o e = (refl, e)
 
@@ -109,7 +109,6 @@ step_right (holds f row) back r =
     ended_right (back_refusal row) (holds f row) (holds f (take (length row - 1) row)) r (λ e. back_right f row r)
 step_right j (list b) r = r
 step_right j (fit box b) r = r
-step_right j (report b) r = r
 
 right_from : (cs : List Call) (j : Journal) → AllRight j → AllRight (journal_after j cs)
 unfolding journal_after

@@ -2,7 +2,7 @@
 -- cases of its tests. Assumes nothing.
 use Prim.Native.Nat.{ℕ, ◌-◌}
 use mathlib.Core.Bool.{Bool, true, false, cond, false≢true}
-use mathlib.Core.List.{List, [], ◌∷◌}
+use mathlib.Core.List.{List, []}
 use mathlib.Core.Logic.{◌⊎◌, inl, inr}
 use mathlib.Core.Path.{◌≡◌, refl}
 use lib.Dec.{ltb, eqb}
@@ -22,12 +22,9 @@ use Rattle.sheet.specs.Orientation.{orientation_of}
 use Rattle.sheet.specs.Place.{is_good_cut}
 use Rattle.sheet.specs.Listing.{head_numbers, over, flat}
 use Rattle.sheet.specs.Lists.{listing as sheetListing, is_short, head_in, scaled_all, list_outcome, list_buffer, outcome_in_box, buffer_in_box, fit_outcome, fit_buffer}
-use Rattle.sheet.specs.declared.listing.Present.{Present}
-use Rattle.sheet.specs.View.{View, shown_by, present_of}
-use Rattle.report.specs.Report.{report_text, is_short_of, report_outcome, report_buffer}
 use Rattle.journal.specs.Journal.{Change, cut, orient, Answer}
-use Rattle.journal.specs.Calls.{Call, load, change, back, list, fit, report, lent}
-use Rattle.journal.specs.SheetCalls.{after_edit, after_list, after_report, changed, sheet_step}
+use Rattle.journal.specs.Calls.{Call, load, change, back, list, fit, lent}
+use Rattle.journal.specs.SheetCalls.{after_edit, after_list, changed, sheet_step}
 use Rattle.journal.specs.Claim.{RefusedKeeps}
 
 -- a call that ends so on the sheet s, with the buffer b, is accepted or keeps both
@@ -111,21 +108,6 @@ fits : (s : Sheet) (box : Size) (b : List ℕ) → Keeps (after_list (fit_outcom
 unfolding fit_outcome fit_buffer
 fits s box b = boxes s (worked_box (present_frame s) box) b
 
-pub reports : {A : Type 0} (p : Present) (b : List ℕ) (s : A)
-    → (is_accepted (after_report p b s).0.outcome ≡ true) ⊎ (((after_report p b s).1 ≡ s) × ((after_report p b s).0.buffer ≡ b))
-unfolding report_outcome report_buffer
-reports p b s = by (shown_by p)
-  where
-    at : (v : View) (t : Bool)
-        → (is_accepted (cond {A = Outcome (List ℕ)} t (refused 13) (accepted (length (report_text v) ∷ []))) ≡ true)
-        ⊎ ((s ≡ s) × (cond t b (over (report_text v) b) ≡ b))
-    at v true = inr (refl, refl)
-    at v false = inl refl
-
-    by : (o : Outcome View) → (is_accepted (report_outcome o (length b)) ≡ true) ⊎ ((s ≡ s) × (report_buffer o b ≡ b))
-    by (refused n) = inr (refl, refl)
-    by (accepted v) = at v (is_short_of v (length b))
-
 steps : (s : Sheet) (c : Call) → Keeps (sheet_step s c) s (lent c)
 unfolding sheet_step
 steps s (load block raw picture model) = loads s (focus_of block raw picture model)
@@ -133,7 +115,6 @@ steps s (change c) = keeps_edited (changed s c) s (changes s c)
 steps s back = keeps_edited (back_sheet s) s (backs s)
 steps s (list b) = lists s b
 steps s (fit box b) = fits s box b
-steps s (report b) = reports (present_of s) b s
 
 pub refused_keeps : RefusedKeeps
 refused_keeps s c n e = by (steps s c)

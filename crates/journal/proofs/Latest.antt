@@ -15,7 +15,7 @@ use Rattle.placing.specs.Focus.{focus_of}
 use Rattle.placing.specs.Load.{Focus}
 use Rattle.workspace.specs.Names.{is_bad_name}
 use Rattle.journal.specs.Journal.{Change, Journal, empty, holds, Answer, no, ok, ended, change_refusal, back_refusal, journal_load, journal_change, journal_back}
-use Rattle.journal.specs.Calls.{Call, load, change, back, list, fit, report, is_load, journal_step}
+use Rattle.journal.specs.Calls.{Call, load, change, back, list, fit, is_load, journal_step}
 use Rattle.journal.specs.WorkspaceJournal.{NamedEdits, WorkspaceJournal, with, empty_in, kept_under, keep_under, is_ninth, WorkspaceCall, on_sheet, keep, return, names_after, journal_sheet, keep_refusal, journal_keep, returned, journal_return, journal_step_in, journal_after_in}
 use Rattle.journal.specs.WorkspaceClaim.{after_in, latest_by, latest_from, latest_keep, ReturnsToLatest, NoKeepNoReturn, KeepIsNoEdit, NamesAreKept}
 use Rattle.journal.proofs.KeptNames.{same_true, kept_after}
@@ -63,7 +63,6 @@ module _ (name : List ℕ) (l : Option (List WorkspaceCall)) where
   sheet_keeps (holds f row) ks back k = ended_keeps (kept_under name ks) (back_refusal row) f row _ k
   sheet_keeps j ks (list b) k = k
   sheet_keeps j ks (fit box b) k = k
-  sheet_keeps j ks (report b) k = k
 
   -- ---- keep and return
   module _ (before : List WorkspaceCall) (m : List ℕ) where

@@ -19,5 +19,3 @@ pub mod Alone
 pub mod RefusalsIn
 pub mod AnyWorkspace
 pub mod Example
-pub mod Sizes
-pub mod Reports

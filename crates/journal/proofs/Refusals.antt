@@ -20,10 +20,9 @@ use Rattle.placing.specs.Focus.{focus_of}
 use Rattle.placing.specs.Load.{Focus}
 use Rattle.shape.specs.Shape.{sameShape}
 use Rattle.shape.proofs.Shapes.{same_told, same_of, other_told, other_of}
-use Rattle.report.specs.Report.{is_short_of, report_outcome, report_buffer}
-use Rattle.journal.specs.Journal.{Change, cut, orient, Journal, empty, holds, still_listed, present_frame, listing, primary_after, fit_box, fitted, Answer, no, ok, ended, is_bad_cut, is_outside, own_refusal, change_refusal, back_refusal, journal_load, journal_change, journal_back, head, numbers, written, journal_list, answer_in_box, journal_fit, journal_view, journal_report}
-use Rattle.journal.specs.Calls.{Call, load, change, back, list, fit, report, lent, is_load, journal_step, journal_after}
-use Rattle.journal.specs.Claim.{after, newest, last_from, held_load, HoldsLastLoad, EmptyBefore, BadCut, GoodCut, Refuses, not_loaded, is_empty, full, bad_cut, drops_primary, outside, nothing_stands, zero_box, shapes_differ, short, short_fit, RefusedExactly, short_report}
+use Rattle.journal.specs.Journal.{Change, cut, orient, Journal, empty, holds, still_listed, present_frame, listing, primary_after, fit_box, fitted, Answer, no, ok, ended, is_bad_cut, is_outside, own_refusal, change_refusal, back_refusal, journal_load, journal_change, journal_back, head, numbers, written, journal_list, answer_in_box, journal_fit}
+use Rattle.journal.specs.Calls.{Call, load, change, back, list, fit, lent, is_load, journal_step, journal_after}
+use Rattle.journal.specs.Claim.{after, newest, last_from, held_load, HoldsLastLoad, EmptyBefore, BadCut, GoodCut, Refuses, not_loaded, is_empty, full, bad_cut, drops_primary, outside, nothing_stands, zero_box, shapes_differ, short, short_fit, RefusedExactly}
 use Rattle.journal.proofs.Answers.{answers}
 use Rattle.journal.proofs.Fitted.{fitted_length}
 
@@ -58,7 +57,6 @@ load_from j (change c ∷ cs) =
 load_from j (back ∷ cs) = load_from (journal_back j).1 cs ∙ ap (λ (o : Option Focus). last_from o cs) (back_load j)
 load_from j (list b ∷ cs) = load_from j cs
 load_from j (fit box b ∷ cs) = load_from j cs
-load_from j (report b ∷ cs) = load_from j cs
 
 pub holds_last_load : HoldsLastLoad
 holds_last_load calls = load_from empty calls
@@ -69,13 +67,12 @@ no_load empty e = refl
 no_load (holds f row) e = let z : ◌≡◌ {A = ℕ} 0 1 = cc in absurd (omega arith)
 
 pub empty_seven : (c : Call) → is_load c ≡ false → (journal_step empty c).0 ≡ no 7 (lent c)
-unfolding journal_step journal_change journal_back journal_list journal_fit journal_report journal_view report_outcome report_buffer
+unfolding journal_step journal_change journal_back journal_list journal_fit
 empty_seven (load block raw picture model) e = absurd (false≢true (sym e))
 empty_seven (change c) e = refl
 empty_seven back e = refl
 empty_seven (list b) e = refl
 empty_seven (fit box b) e = refl
-empty_seven (report b) e = refl
 
 pub empty_before : EmptyBefore
 empty_before calls c e l =
@@ -116,7 +113,7 @@ module _ (l t w h : ℕ) (f : Size) where
   bad_of (inr (inr (inr p))) =
       or_second (eqb w 0) _ (or_second (eqb h 0) _ (or_second (ltb f.width (l + w)) _ (lt-ltb f.height (t + h) p)))
 
-  pub good_told : is_bad_cut l t w h f ≡ false → GoodCut l t w h f
+  good_told : is_bad_cut l t w h f ≡ false → GoodCut l t w h f
   unfolding is_bad_cut
   good_told e =
       let a = neither (eqb w 0) _ e in
@@ -233,16 +230,6 @@ fit_told f row asked b n e = by (has_zero_side box) (sameShape g box) refl refl 
         written_told f row box (fitted f row box) b (fit asked b) n
         (λ l. short_fit {f = f} {box = asked} (record { no_zero_side = p; same-shape = same_told g box q }) (omega (arith, fitted_length f row box))) y
 
-report_told : (f : Focus) (row : List Change) (b : List ℕ) (n : ℕ)
-    → (journal_report (holds f row) b).outcome ≡ refused n → Refuses (holds f row) (report b) n
-unfolding journal_report journal_view report_outcome is_short_of
-report_told f row b n e = by (ltb (length b) (61 * (length (listing f row) + 1))) refl _ e
-  where
-    by : (t : Bool) → ltb (length b) (61 * (length (listing f row) + 1)) ≡ t → (given : List ℕ)
-        → cond t (refused 13) (accepted given) ≡ refused n → Refuses (holds f row) (report b) n
-    by true p given y = same_number (short_report (ltb-true (length b) (61 * (length (listing f row) + 1)) p)) y
-    by false p given y = absurd (never given n y)
-
 pub told : (j : Journal) (c : Call) (n : ℕ) → (journal_step j c).0.outcome ≡ refused n → Refuses j c n
 unfolding journal_step journal_change journal_back journal_list
 told j (load block raw picture model) n e = load_told j block raw picture model n (focus_of block raw picture model) refl e
@@ -255,12 +242,10 @@ told (holds f row) (list b) n e =
     written_told f row (present_frame f row) (listing f row) b (list b) n (λ l. short l) e
 told empty (fit box b) n e = same_number (is_empty refl) (rw (empty_seven (fit box b) refl) at e)
 told (holds f row) (fit box b) n e = fit_told f row box b n e
-told empty (report b) n e = same_number (is_empty refl) (rw (empty_seven (report b) refl) at e)
-told (holds f row) (report b) n e = report_told f row b n e
 
 -- ---- and a number that applies is answered
 pub says : {j : Journal} {c : Call} {n : ℕ} → Refuses j c n → (journal_step j c).0.outcome ≡ refused n
-unfolding journal_step journal_load journal_change change_refusal journal_back back_refusal journal_list journal_fit answer_in_box written journal_report journal_view report_outcome is_short_of
+unfolding journal_step journal_load journal_change change_refusal journal_back back_refusal journal_list journal_fit answer_in_box written
 says (not_loaded e) = rw e
 says (is_empty {c = c} l) = ap (λ (a : Answer). a.outcome) (empty_seven c l)
 says (full {standing = row} h) = rw (le-leb 64 (length row) h)
@@ -275,7 +260,6 @@ says (short {f = f} {standing = row} {buffer = b} l) = rw (lt-ltb (length b) (6 
 says (shapes_differ {f = f} {standing = row} {box = box} z d) = rw (z, other_of (present_frame f row) (fit_box f row box) d)
 says (short_fit {f = f} {standing = row} {box = box} {buffer = b} g l) =
     rw (g.no_zero_side, same_of (present_frame f row) (fit_box f row box) g.same-shape, fitted_length f row (fit_box f row box), lt-ltb (length b) (6 * length (listing f row)) l)
-says (short_report {f = f} {standing = row} {buffer = b} l) = rw (lt-ltb (length b) (61 * (length (listing f row) + 1)) l)
 
 pub refused_exactly : RefusedExactly
 refused_exactly calls c n = (

@@ -16,7 +16,7 @@ use Rattle.reading.specs.Outcome.{Outcome, refused}
 use Rattle.placing.specs.Load.{Focus}
 use Rattle.workspace.specs.Names.{is_bad_name}
 use Rattle.journal.specs.Journal.{Change, Journal, empty, holds, Answer, no, ended}
-use Rattle.journal.specs.Calls.{Call, load, change, back, list, fit, report, journal_after}
+use Rattle.journal.specs.Calls.{Call, load, change, back, list, fit, journal_after}
 use Rattle.journal.specs.Claim.{last_from, held_load}
 use Rattle.journal.specs.WorkspaceJournal.{NamedEdits, WorkspaceJournal, with, empty_in, kept_under, keep_under, is_kept, is_ninth, WorkspaceCall, on_sheet, keep, return, lent_in, journal_sheet, keep_refusal, journal_keep, returned, journal_return, journal_step_in, journal_after_in}
 use Rattle.journal.specs.WorkspaceClaim.{after_in, sheet_calls, HoldsLastLoadIn, is_load_in, EmptyBeforeIn, BadName, GoodName, RefusesIn, of_sheet, empty_keep, empty_return, bad_keep, bad_return, ninth, no_such_name, RefusedExactlyIn}
@@ -48,7 +48,6 @@ last_onward last (change c) cs = refl
 last_onward last back cs = refl
 last_onward last (list buffer) cs = refl
 last_onward last (fit box buffer) cs = refl
-last_onward last (report buffer) cs = refl
 
 load_from_in : (cs : List WorkspaceCall) (w : WorkspaceJournal)
     → held_load (journal_after_in w cs).journal ≡ last_from (held_load w.journal) (sheet_calls cs)

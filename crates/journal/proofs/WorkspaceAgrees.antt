@@ -24,15 +24,15 @@ use Rattle.sheet.specs.Sheet.{leaves, kept_by, fresh_sheet, loaded_sheet, load_s
 use Rattle.workspace.specs.declared.Checkpoint.{Checkpoint}
 use Rattle.workspace.specs.declared.Workspace.{Workspace}
 use Rattle.workspace.specs.Names.{is_bad_name}
-use Rattle.workspace.specs.Workspace.{no_checkpoint, without_names, fresh_workspace, load_in, with_sheet, is_counted, usable_in, edit_in, list_outcome_in, list_buffer_in, fit_outcome_in, fit_buffer_in, if_named, place_of, checkpoint_of, keep_at, keep_in, return_at, return_in, view_in}
+use Rattle.workspace.specs.Workspace.{no_checkpoint, without_names, fresh_workspace, load_in, with_sheet, is_counted, usable_in, edit_in, list_outcome_in, list_buffer_in, fit_outcome_in, fit_buffer_in, if_named, place_of, checkpoint_of, keep_at, keep_in, return_at, return_in}
 use Rattle.workspace.proofs.Tests.{name_fits}
-use Rattle.journal.specs.Journal.{Change, Journal, holds, Answer, no, ok, ended, journal_load, journal_view}
-use Rattle.journal.specs.Calls.{Call, load, change, back, list, fit, report, is_load, journal_step}
+use Rattle.journal.specs.Journal.{Change, Journal, holds, Answer, no, ok, ended, journal_load}
+use Rattle.journal.specs.Calls.{Call, load, change, back, list, fit, is_load, journal_step}
 use Rattle.journal.specs.SheetCalls.{after_edit, sheet_step}
 use Rattle.journal.specs.WorkspaceJournal.{NamedEdits, WorkspaceJournal, with, empty_in, kept_under, keep_under, is_kept, is_ninth, WorkspaceCall, on_sheet, keep, return, names_after, journal_sheet, keep_refusal, journal_keep, returned, journal_return, journal_step_in, run_journal_in, journal_after_in}
 use Rattle.journal.specs.WorkspaceCalls.{sheet_step_in, workspace_step, run_workspace, workspace_after}
-use Rattle.journal.specs.WorkspaceClaim.{WorkspaceClaim, after_in, answer_in, EightAtMost, SameViewIn}
-use Rattle.journal.proofs.Claim.{load_of, row_of, journal_of, Held, Good, blank, held, usable_held, usable_blank, journal_held, journal_blank, loads, step, view_is}
+use Rattle.journal.specs.WorkspaceClaim.{WorkspaceClaim, after_in, answer_in, EightAtMost}
+use Rattle.journal.proofs.Claim.{load_of, row_of, journal_of, Held, Good, blank, held, usable_held, usable_blank, journal_held, journal_blank, loads, step}
 use Rattle.journal.proofs.CheckpointPlaces.{kept_of, Fine, AllFine, fine_set, fine_take, fine_at, fresh_fine, reads_back, Found, there, absent, find}
 
 -- ---- the journal that a workspace stands for
@@ -251,7 +251,6 @@ loaded_names (change c) l ks = absurd (false≢true l)
 loaded_names back l ks = absurd (false≢true l)
 loaded_names (list buffer) l ks = absurd (false≢true l)
 loaded_names (fit box buffer) l ks = absurd (false≢true l)
-loaded_names (report buffer) l ks = absurd (false≢true l)
 
 refused_names : (c : Call) (n : ℕ) (ks : List NamedEdits) → names_after c (no n []) ks ≡ ks
 refused_names (load block raw picture model) n ks = refl
@@ -259,7 +258,6 @@ refused_names (change c) n ks = refl
 refused_names back n ks = refl
 refused_names (list buffer) n ks = refl
 refused_names (fit box buffer) n ks = refl
-refused_names (report buffer) n ks = refl
 
 fresh_places : (s : Sheet) → Places (without_names s)
 unfolding without_names
@@ -292,14 +290,13 @@ passes w g p c =
     )
 
 sheet_step_lem : (w : Workspace) → Good w.sheet → Places w → (c : Call) → AgreeIn (sheet_step_in w c) (journal_sheet (journal_in w) c)
-unfolding sheet_step_in sheet_step journal_sheet journal_step edit_in view_in list_outcome_in list_buffer_in fit_outcome_in fit_buffer_in
+unfolding sheet_step_in sheet_step journal_sheet journal_step edit_in list_outcome_in list_buffer_in fit_outcome_in fit_buffer_in
 sheet_step_lem w g p (load block raw picture model) =
     loads_in w g p (load block raw picture model) refl (focus_of block raw picture model) (focus_sound block raw picture model)
 sheet_step_lem w g p (change c) = rw (counted_in w p) (passes w g p (change c))
 sheet_step_lem w g p back = rw (counted_in w p) (passes w g p back)
 sheet_step_lem w g p (list buffer) = rw (counted_in w p) (passes w g p (list buffer))
 sheet_step_lem w g p (fit box buffer) = rw (counted_in w p) (passes w g p (fit box buffer))
-sheet_step_lem w g p (report buffer) = rw (counted_in w p) (passes w g p (report buffer))
 
 -- ---- any call, any list of calls
 step_in : (w : Workspace) → Good w.sheet → Places w → (c : WorkspaceCall) → AgreeIn (workspace_step w c) (journal_step_in (journal_in w) c)
@@ -359,13 +356,6 @@ answers_in calls c =
     let f = follows_in calls in
     (step_in (workspace_after fresh_workspace calls) f.good f.places c).0
     ∙ ap (λ (j : WorkspaceJournal). (journal_step_in j c).0) f.same
-
-pub same_view_in : SameViewIn
-unfolding view_in
-same_view_in calls =
-    let f = follows_in calls in
-    let w = workspace_after fresh_workspace calls in
-    rw (counted_in w f.places) (view_is w.sheet f.good ∙ ap (λ (j : WorkspaceJournal). journal_view j.journal) f.same)
 
 pub eight_at_most : EightAtMost
 eight_at_most calls =

@@ -3,7 +3,7 @@ use Rattle.std.specs.Prelude.{ℕ, Bool, true, false, List, [], ◌∷◌}
 use Rattle.reading.specs.declared.geometry.Size.{Size}
 use Rattle.reading.specs.declared.geometry.OptionalSize.{OptionalSize}
 use Rattle.placing.specs.Focus.{focus_of}
-use Rattle.journal.specs.Journal.{Change, Journal, Answer, journal_load, journal_change, journal_back, journal_list, journal_fit, journal_report}
+use Rattle.journal.specs.Journal.{Change, Journal, Answer, journal_load, journal_change, journal_back, journal_list, journal_fit}
 
 -- a call with its arguments, except the sheet
 pub data Call : Type 0 where
@@ -16,8 +16,6 @@ pub data Call : Type 0 where
   list : List ℕ → Call
   -- with the box, and what the lent buffer holds
   fit : Size → List ℕ → Call
-  -- 02's picture slip, with what the lent buffer of bytes holds
-  report : List ℕ → Call
 
 -- what the buffer that a call is lent holds; no places of a call that is lent none
 abbrev pub lent : Call → List ℕ
@@ -26,7 +24,6 @@ lent (change c) = []
 lent back = []
 lent (list buffer) = buffer
 lent (fit box buffer) = buffer
-lent (report buffer) = buffer
 
 abbrev pub is_load : Call → Bool
 is_load (load block raw picture model) = true
@@ -34,7 +31,6 @@ is_load (change c) = false
 is_load back = false
 is_load (list buffer) = false
 is_load (fit box buffer) = false
-is_load (report buffer) = false
 
 -- how a call ends, and the journal after it
 unfoldable pub journal_step : Journal → Call → Answer × Journal
@@ -43,7 +39,6 @@ journal_step j (change c) = journal_change j c
 journal_step j back = journal_back j
 journal_step j (list buffer) = (journal_list j buffer, j)
 journal_step j (fit box buffer) = (journal_fit j box buffer, j)
-journal_step j (report buffer) = (journal_report j buffer, j)
 
 -- the answers to a list of calls, and the journal after it
 unfoldable pub run_journal : Journal → List Call → List Answer

@@ -14,9 +14,8 @@ use Rattle.placing.specs.Load.{Focus, no_point}
 use Rattle.shape.specs.Shape.{shape_difference, longest_side}
 use Rattle.sheet.specs.declared.Sheet.{Sheet}
 use Rattle.sheet.specs.Sheet.{fresh_sheet}
-use Rattle.sheet.specs.View.{view_of}
-use Rattle.journal.specs.Journal.{Change, cut, orient, Journal, empty, holds, frame_by, point_by, stays_listed, present_frame, listing, primary_index, primary_of, primary_after, fit_box, fitted, Answer, no, ok, numbers, head, journal_view}
-use Rattle.journal.specs.Calls.{Call, load, change, back, list, fit, report, lent, is_load, run_journal, journal_after}
+use Rattle.journal.specs.Journal.{Change, cut, orient, Journal, empty, holds, frame_by, point_by, stays_listed, present_frame, listing, primary_index, primary_of, primary_after, fit_box, fitted, Answer, no, ok, numbers, head}
+use Rattle.journal.specs.Calls.{Call, load, change, back, list, fit, lent, is_load, run_journal, journal_after}
 use Rattle.journal.specs.SheetCalls.{sheet_step, run_sheet, sheet_after}
 
 -- "Demand 3 is a single claim about a whole list of calls. .. The list starts from the fresh sheet, which is empty. .. Each call of
@@ -44,7 +43,6 @@ last_from last (change c ∷ cs) = last_from last cs
 last_from last (back ∷ cs) = last_from last cs
 last_from last (list buffer ∷ cs) = last_from last cs
 last_from last (fit box buffer ∷ cs) = last_from last cs
-last_from last (report buffer ∷ cs) = last_from last cs
 
 -- of a list of calls: none where no load of the list is accepted
 abbrev pub last_load : List Call → Option Focus
@@ -61,11 +59,6 @@ HoldsLastLoad = (calls : List Call) → held_load (after calls) ≡ last_load ca
 -- before an accepted load the sheet is empty: any call but a load is refused by 7
 abbrev pub EmptyBefore : Type 0
 EmptyBefore = (calls : List Call) (c : Call) → last_load calls ≡ none → is_load c ≡ false → answer calls c ≡ no 7 (lent c)
-
--- ---- what is shown
--- the sheet's view is the journal's, after every list of calls
-abbrev pub SameView : Type 0
-SameView = (calls : List Call) → view_of (sheet_after fresh_sheet calls) ≡ journal_view (after calls)
 
 -- ---- what is listed
 -- where edits carry a point alone, and whether it fits inside every cut among them
@@ -147,8 +140,7 @@ pub record GoodBox (f box : Size) : Type 0 where
   pub same_shape : shape_difference f box ≤ longest_side f box
 
 -- when a call is refused by a number, from what the journal holds: the lowest that applies, but that 19 is "between 12 and 13". "Load can
--- give 1 to 6; cut 7 to 10; .. back 7, 11; list 7, 13; fit 7, 12, 13", and now 19; an orientation is "judged by 7, 8 and 15", a report by 7
--- and 13
+-- give 1 to 6; cut 7 to 10; .. back 7, 11; list 7, 13; fit 7, 12, 13", and now 19; an orientation is "judged by 7, 8 and 15"
 pub data Refuses : Journal → Call → ℕ → Type 0 where
   -- 1 to 6, as demand 2 says
   not_loaded : {j : Journal} {block : List ℕ} {raw picture : OptionalSize} {model : List ℕ} {n : ℕ}
@@ -180,9 +172,6 @@ pub data Refuses : Journal → Call → ℕ → Type 0 where
       → Refuses (holds f standing) (list buffer) 13
   short_fit : {f : Focus} {standing : List Change} {box : Size} {buffer : List ℕ} → GoodBox (present_frame f standing) (fit_box f standing box)
       → length buffer < 6 * length (listing f standing) → Refuses (holds f standing) (fit box buffer) 13
-  -- 02: "a buffer shorter than 61 × (count + 1)"
-  short_report : {f : Focus} {standing : List Change} {buffer : List ℕ} → length buffer < 61 * (length (listing f standing) + 1)
-      → Refuses (holds f standing) (report buffer) 13
 
 -- a call is refused exactly when its refusals say
 abbrev pub RefusedExactly : Type 0

@@ -1,13 +1,12 @@
 -- 01's whole case as calls, with 02's orientation: the block and the model of its first line, then orientation 6, a cut and a list call,
--- with a buffer of one place more than the listing needs. And 02's page editor on the same photograph: two cuts, and the first again;
--- and its picture slip, behind the cut of the whole case.
-use Rattle.std.specs.Prelude.{ℕ, List, [], ◌∷◌, ◌++◌, ◌≡◌, replicate}
+-- with a buffer of one place more than the listing needs. And 02's page editor on the same photograph: two cuts, and the first again.
+use Rattle.std.specs.Prelude.{ℕ, List, [], ◌∷◌, ◌≡◌, replicate}
 use Rattle.reading.specs.declared.geometry.OptionalSize.TheVariants.{Missing}
 use Rattle.placing.specs.Points.{d600}
 use Rattle.sheet.specs.Sheet.{fresh_sheet}
 use Rattle.workspace.specs.Workspace.{fresh_workspace}
-use Rattle.journal.specs.Journal.{cut, orient, no, ok}
-use Rattle.journal.specs.Calls.{Call, load, change, back, list, report}
+use Rattle.journal.specs.Journal.{cut, orient, ok}
+use Rattle.journal.specs.Calls.{Call, load, change, back, list}
 use Rattle.journal.specs.SheetCalls.{run_sheet}
 use Rattle.journal.specs.WorkspaceJournal.{WorkspaceCall, on_sheet, keep, return}
 use Rattle.journal.specs.WorkspaceCalls.{run_workspace}
@@ -67,36 +66,3 @@ PageEditor =
     ok (4016 ∷ 4000 ∷ 2 ∷ 0 ∷ 1 ∷ 2 ∷ []) (1 ∷ 2009 ∷ 3008 ∷ 164 ∷ 164 ∷ 0 ∷ 16 ∷ 2009 ∷ 3486 ∷ 164 ∷ 164 ∷ 0 ∷ 9 ∷ []) ∷
     ok [] [] ∷
     ok (400 ∷ 400 ∷ 1 ∷ 0 ∷ 1 ∷ 2 ∷ []) (1 ∷ 109 ∷ 108 ∷ 164 ∷ 164 ∷ 0 ∷ 9 ∷ []) ∷ []
-
--- "The chief sub pins a slip to each page dummy": a report into 123 bytes, and one into 121
-abbrev pub slip_case : List Call
-slip_case =
-    load block Missing Missing d600 ∷
-    change (orient 6) ∷ change (cut 1900 2900 400 400) ∷ report (replicate 123 9) ∷ report (replicate 121 9) ∷ []
-
--- so many spaces, and then these characters
-abbrev behind : ℕ → List ℕ → List ℕ
-behind n cs = replicate n 32 ++ cs
-
---     1        400        400          0          1          2
---     1        109        108        164        164          0
-abbrev slip : List ℕ
-slip =
-    behind 4 (49 ∷ [])
-    ++ behind 8 (52 ∷ 48 ∷ 48 ∷ [])
-    ++ behind 8 (52 ∷ 48 ∷ 48 ∷ [])
-    ++ behind 10 (48 ∷ [])
-    ++ behind 10 (49 ∷ [])
-    ++ behind 10 (50 ∷ 10 ∷ [])
-    ++ behind 4 (49 ∷ [])
-    ++ behind 8 (49 ∷ 48 ∷ 57 ∷ [])
-    ++ behind 8 (49 ∷ 48 ∷ 56 ∷ [])
-    ++ behind 8 (49 ∷ 54 ∷ 52 ∷ [])
-    ++ behind 8 (49 ∷ 54 ∷ 52 ∷ [])
-    ++ behind 10 (48 ∷ 10 ∷ [])
-
--- 122 bytes are written, and the last of the 123 is kept; 121 are too few, and all are kept
-abbrev pub SlipCase : Type 0
-SlipCase =
-    run_sheet fresh_sheet slip_case ≡
-    ok [] [] ∷ ok [] [] ∷ ok [] [] ∷ ok (122 ∷ []) (slip ++ (9 ∷ [])) ∷ no 13 (replicate 121 9) ∷ []

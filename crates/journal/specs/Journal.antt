@@ -1,7 +1,7 @@
 -- 01, "Book": what the calls alone say. The journal is fed each call with its arguments, except the sheet, and every answer is
 -- worked out from what it holds. Of the sheet it knows nothing: the two share what one load gives, when a point fits a frame, how
--- it is scaled, how a blank side of a box is worked out, when a box has a frame's shape, what a view is and the text of its report, and
--- 01's numbers for modes, origins and in-focus. 02's orientations are here in the journal's own words.
+-- it is scaled, how a blank side of a box is worked out, when a box has a frame's shape, and 01's numbers for modes, origins and in-focus.
+-- 02's orientations are here in the journal's own words.
 use Rattle.std.specs.Prelude.{ℕ, ◌+◌, ◌-◌, ◌*◌, Bool, true, false, ◌&&◌, ◌||◌, cond, List, [], ◌∷◌, ◌++◌, map, leb, ltb, eqb, get_or, length, take, drop}
 use Rattle.std.proofs.Math.Option.{Option, none, some}
 use Rattle.reading.specs.Focus.{in_focus_number, mode_number}
@@ -13,8 +13,6 @@ use Rattle.placing.specs.Scale.{scaled_point}
 use Rattle.placing.specs.Load.{Focus, no_point, origin_number}
 use Rattle.shape.specs.Shape.{same_shape}
 use Rattle.shape.specs.WorkedBox.{worked_box}
-use Rattle.sheet.specs.View.{View}
-use Rattle.report.specs.Report.{report_outcome, report_buffer}
 
 -- an edit: "Cut left, top, width, height", or an orientation with its number
 pub data Change : Type 0 where
@@ -154,8 +152,8 @@ abbrev pub fitted : Focus → List Change → Size → List FocusPoint
 fitted load standing box = map (λ p. scaled_point p (present_frame load standing) box) (listing load standing)
 
 -- ---- how calls end
--- refused by one of the documents' numbers, or accepted with the numbers that the call gives (none, a listing's head, or how many bytes a
--- report has); and the buffer as the call leaves it (of a call that is lent none: no places)
+-- refused by one of the documents' numbers, or accepted with the numbers that the call gives (none, or a listing's head); and the buffer
+-- as the call leaves it (of a call that is lent none: no places)
 pub record Answer : Type 0 where
   pub outcome : Outcome (List ℕ)
   pub buffer : List ℕ
@@ -259,22 +257,3 @@ answer_in_box load standing box buffer =
 unfoldable pub journal_fit : Journal → Size → List ℕ → Answer
 journal_fit empty box buffer = no 7 buffer
 journal_fit (holds load standing) box buffer = answer_in_box load standing (fit_box load standing box) buffer
-
--- ---- what the journal shows
--- the present frame, the listed points, the primary's index, mode and origin, as one value; 7 if the book is empty. What only reads, and
--- is no list and no fit, is worked out from it
-unfoldable pub journal_view : Journal → Outcome View
-journal_view empty = refused 7
-journal_view (holds load standing) =
-    accepted (record {
-      frame = present_frame load standing;
-      points = listing load standing;
-      index = primary_index load standing;
-      mode = load.mode;
-      origin = load.origin;
-    })
-
--- 02's picture slip: 7, 13, or "The answer is the number of bytes written"
-unfoldable pub journal_report : Journal → List ℕ → Answer
-journal_report j buffer =
-    record { outcome = report_outcome (journal_view j) (length buffer); buffer = report_buffer (journal_view j) buffer }

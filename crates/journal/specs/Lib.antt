@@ -7,5 +7,4 @@ pub mod BlankLaws
 pub mod WorkspaceJournal
 pub mod WorkspaceCalls
 pub mod WorkspaceClaim
-pub mod ReportLaws
 pub mod Example

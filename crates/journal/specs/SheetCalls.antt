@@ -5,27 +5,20 @@ use Rattle.placing.specs.Focus.{focus_of}
 use Rattle.sheet.specs.declared.Sheet.{Sheet}
 use Rattle.sheet.specs.Sheet.{load_sheet, orient_sheet, cut_sheet, back_sheet}
 use Rattle.sheet.specs.Lists.{list_outcome, list_buffer, fit_outcome, fit_buffer}
-use Rattle.sheet.specs.declared.listing.Present.{Present}
-use Rattle.sheet.specs.View.{shown_by, present_of}
-use Rattle.report.specs.Report.{report_outcome, report_buffer}
 use Rattle.journal.specs.Journal.{Change, cut, orient, Answer}
-use Rattle.journal.specs.Calls.{Call, load, change, back, list, fit, report}
+use Rattle.journal.specs.Calls.{Call, load, change, back, list, fit}
 
 -- of a call that gives nothing but the sheet, or what else it was called on
 abbrev pub after_edit : {A : Type 0} → Outcome (List ℕ) × A → Answer × A
 after_edit r = (record { outcome = r.0; buffer = [] }, r.1)
 
--- of what only reads, and leaves it as it is
+-- of list and fit, which leave it as it is
 abbrev pub after_list : {A : Type 0} → Outcome (List ℕ) → List ℕ → A → Answer × A
 after_list outcome buffer s = (record { outcome = outcome; buffer = buffer }, s)
 
 abbrev pub changed : Sheet → Change → Outcome (List ℕ) × Sheet
 changed s (cut left top width height) = cut_sheet s left top width height
 changed s (orient n) = orient_sheet s n
-
--- a report of what the sheet shows, by the code's value for that
-abbrev pub after_report : {A : Type 0} → Present → List ℕ → A → Answer × A
-after_report p buffer s = after_list (report_outcome (shown_by p) (length buffer)) (report_buffer (shown_by p) buffer) s
 
 -- how a call ends, and the sheet after it
 unfoldable pub sheet_step : Sheet → Call → Answer × Sheet
@@ -34,7 +27,6 @@ sheet_step s (change c) = after_edit (changed s c)
 sheet_step s back = after_edit (back_sheet s)
 sheet_step s (list buffer) = after_list (list_outcome s (length buffer)) (list_buffer s buffer) s
 sheet_step s (fit box buffer) = after_list (fit_outcome s box (length buffer)) (fit_buffer s box buffer) s
-sheet_step s (report buffer) = after_report (present_of s) buffer s
 
 -- the answers to a list of calls, and the sheet after it
 unfoldable pub run_sheet : Sheet → List Call → List Answer

@@ -3,10 +3,10 @@ use Rattle.std.specs.Prelude.{List, [], ◌∷◌, length}
 use Rattle.placing.specs.Focus.{focus_of}
 use Rattle.sheet.specs.Sheet.{back_sheet}
 use Rattle.workspace.specs.declared.Workspace.{Workspace}
-use Rattle.workspace.specs.Workspace.{load_in, edit_in, present_in, list_outcome_in, list_buffer_in, fit_outcome_in, fit_buffer_in, keep_in, return_in}
+use Rattle.workspace.specs.Workspace.{load_in, edit_in, list_outcome_in, list_buffer_in, fit_outcome_in, fit_buffer_in, keep_in, return_in}
 use Rattle.journal.specs.Journal.{Answer}
-use Rattle.journal.specs.Calls.{Call, load, change, back, list, fit, report}
-use Rattle.journal.specs.SheetCalls.{changed, after_edit, after_list, after_report}
+use Rattle.journal.specs.Calls.{Call, load, change, back, list, fit}
+use Rattle.journal.specs.SheetCalls.{changed, after_edit, after_list}
 use Rattle.journal.specs.WorkspaceJournal.{WorkspaceCall, on_sheet, keep, return}
 
 -- how a call of the sheet ends, and the workspace after it
@@ -16,7 +16,6 @@ sheet_step_in w (change c) = after_edit (edit_in w (changed w.sheet c))
 sheet_step_in w back = after_edit (edit_in w (back_sheet w.sheet))
 sheet_step_in w (list buffer) = after_list (list_outcome_in w (length buffer)) (list_buffer_in w buffer) w
 sheet_step_in w (fit box buffer) = after_list (fit_outcome_in w box (length buffer)) (fit_buffer_in w box buffer) w
-sheet_step_in w (report buffer) = after_report (present_in w) buffer w
 
 -- how any call ends
 unfoldable pub workspace_step : Workspace → WorkspaceCall → Answer × Workspace

@@ -11,8 +11,8 @@ use Rattle.placing.specs.Focus.{focus_of}
 use Rattle.placing.specs.Load.{Focus}
 use Rattle.sheet.specs.Sheet.{fresh_sheet}
 use Rattle.workspace.specs.declared.Workspace.{Workspace}
-use Rattle.workspace.specs.Workspace.{fresh_workspace, view_in}
-use Rattle.journal.specs.Journal.{Change, Journal, empty, holds, present_frame, Answer, no, ok, numbers, head, journal_view}
+use Rattle.workspace.specs.Workspace.{fresh_workspace}
+use Rattle.journal.specs.Journal.{Change, Journal, empty, holds, present_frame, Answer, no, ok, numbers, head}
 use Rattle.journal.specs.Calls.{Call, load, list, is_load, journal_step}
 use Rattle.journal.specs.SheetCalls.{run_sheet}
 use Rattle.journal.specs.Claim.{after, answer, last_load, held_load, shown, PrimaryListed, Refuses}
@@ -54,11 +54,6 @@ abbrev pub EmptyBeforeIn : Type 0
 EmptyBeforeIn =
     (calls : List WorkspaceCall) (c : WorkspaceCall) → last_load (sheet_calls calls) ≡ none → is_load_in c ≡ false →
     answer_in calls c ≡ no 7 (lent_in c)
-
--- ---- what is shown
--- what the workspace shows is what the journal shows, after every list of calls
-abbrev pub SameViewIn : Type 0
-SameViewIn = (calls : List WorkspaceCall) → view_in (workspace_after fresh_workspace calls) ≡ journal_view (after_in calls).journal
 
 -- ---- the latest accepted keep under a name since the last accepted load: the calls before it, if there is one
 -- what is known of it after one call more: an accepted load forgets it, an accepted keep under that name is it

@@ -9,6 +9,5 @@ pub mod Points
 pub mod Named
 pub mod Table
 pub mod Focus
-pub mod Bounds
 pub mod Examples
 pub mod Inside

@@ -1,6 +1,6 @@
 -- A call's line spells that call, and whatever spells something is a call's line, in either case. The idea: the laws of a line's
 -- characters (crate hex) and those of its bytes (crate calls), one after the other. Assumes nothing.
-use Prim.Native.Nat.{ℕ, ◌+◌, ◌-◌, ◌≤◌}
+use Prim.Native.Nat.{ℕ, zero, suc, ◌+◌, ◌-◌, ◌≤◌}
 use mathlib.Core.Bool.{true, false}
 use mathlib.Core.List.{List, [], ◌∷◌}
 use mathlib.Core.Logic.{◌⊎◌, inl, inr, ⊎_elim}
@@ -8,17 +8,15 @@ use mathlib.Core.Path.{◌≡◌, refl, sym, ap, ap₂, ◌∙◌}
 use lib.ListN.{length, take, drop, length-append}
 use native.Mathlib.Omega.{arith}
 use Rattle.laws.proofs.Tests.{by_bool}
-use Rattle.numbers.specs.Bytes.{AreBytes}
-use Rattle.numbers.proofs.Bytes.{bytes_from, bytes_to}
 use Rattle.reading.specs.Outcome.{Outcome, refused, accepted}
 use Rattle.hex.specs.Hex.{well_formed, bytes_of}
-use Rattle.hex.specs.Laws.{line_of, ReadsAs}
+use Rattle.hex.specs.Laws.{AreBytes, line_of, ReadsAs}
 use Rattle.hex.proofs.Laws.{bytes_long, well_short}
 use Rattle.hex.proofs.Written.{written_is_read, either_case, read_is_bytes, read_is_written}
 use Rattle.calls.specs.Format.{LineCall, line_load, line_cut, line_back, line_list, line_fit, line_contents, line_orient, model_length, model_part, block_part, contents_part, call_of, model_given, block_given}
 use Rattle.calls.specs.Laws.{check_of, checked, encoded, Encodes, EncodedOrMalformed, is_malformed, is_encoded}
 use Rattle.calls.proofs.Encoded.{encoded_is_read, encoded_is_bytes}
-use Rattle.calls.proofs.Accepted.{read_is_encoded}
+use Rattle.calls.proofs.Accepted.{bytes_from, read_is_encoded}
 use Rattle.session.specs.Lines.{spelling, spelled_by, spelled_in, spelled}
 use Rattle.session.specs.Laws.{LineIsRead, CaseIsIgnored, WasEncoded, LineWasEncoded}
 
@@ -51,6 +49,12 @@ case_is_ignored line = rw ((either_case line).same_form, (either_case line).the_
 -- ---- what is read is a call's line
 no_bytes : AreBytes []
 no_bytes i = omega arith
+
+bytes_to : (n : ℕ) (b : List ℕ) → AreBytes b → AreBytes (take n b)
+bytes_to zero b h i = omega arith
+bytes_to (suc n) [] h i = omega arith
+bytes_to (suc n) (x ∷ b) h zero = h 0
+bytes_to (suc n) (x ∷ b) h (suc i) = bytes_to n b (λ j. h (suc j)) i
 
 -- the model and the block are parts of the bytes
 module _ (b : List ℕ) (h : AreBytes b) where

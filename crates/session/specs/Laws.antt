@@ -1,9 +1,8 @@
 -- Lines the other way round: the line that a call is written on, and what it spells. The lines that spell something are exactly those
 -- of calls that can be written, in either case, which proofs/Spelled.antt proves.
 use Rattle.std.specs.Prelude.{ℕ, ◌≤◌, List, ◌⊎◌, ◌≡◌, length}
-use Rattle.numbers.specs.Bytes.{AreBytes}
 use Rattle.reading.specs.Outcome.{refused, accepted}
-use Rattle.hex.specs.Laws.{line_of, upper_line}
+use Rattle.hex.specs.Laws.{AreBytes, line_of, upper_line}
 use Rattle.calls.specs.Format.{LineCall}
 use Rattle.calls.specs.Laws.{encoded, Encodable}
 use Rattle.session.specs.Lines.{spelling, spelled}

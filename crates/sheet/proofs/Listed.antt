@@ -1,4 +1,4 @@
--- The listing, one point of the load at a time: its 39 places, the present frame and the primary's index, as the loop of `gather` finds them.
+-- The listing, one point of the load at a time: its 39 places, and the primary's place and index, as the loop of `present` finds them.
 -- From index 0 on it is the listing of the definitions. Assumes nothing.
 use Prim.Native.Nat.{ℕ, zero, suc, ◌+◌, ◌<◌, ◌≤◌}
 use mathlib.Core.Bool.{Bool, true, false, cond}
@@ -9,15 +9,14 @@ use lib.ListN.{length, set, length-append}
 use borrow.Author.Tests.{le-leb, lt-leb}
 use native.Mathlib.Omega.{arith}
 use native.Mathlib.Numerals.{add-one}
-use Rattle.reading.specs.declared.geometry.Size.{Size}
 use Rattle.placing.specs.declared.focus.FocusPoint.{FocusPoint}
 use Rattle.placing.specs.Laid.{places}
 use Rattle.sheet.specs.declared.edits.Carried.{Carried}
 use Rattle.sheet.specs.declared.Sheet.{Sheet}
-use Rattle.sheet.specs.declared.listing.Present.{Present}
-use Rattle.sheet.specs.Sheet.{placed_at, present_frame}
+use Rattle.sheet.specs.declared.Present.{Present}
+use Rattle.sheet.specs.Sheet.{placed_at}
 use Rattle.sheet.specs.Lists.{if_carried, listed_to}
-use Rattle.sheet.specs.Inside.{listed_between, gathered_of}
+use Rattle.sheet.specs.Inside.{listed_between, present_of}
 use Rattle.sheet.proofs.Walked.{reached, as_placed}
 use Rattle.placing.proofs.Places.{set_places}
 
@@ -53,10 +52,6 @@ module _ (s : Sheet) (a : ℕ) where
   unfolding listed_between
   listed_more i h = rw (add-one i, le-leb a i h)
 
-  -- of one point
-  pub only_one : listed_between s a (a + 1) ≡ if_carried (placed_at s a)
-  only_one = listed_more a (omega arith) ∙ rw (none_before a (omega arith))
-
   -- a count and 39 places that hold the listed points from index a up to i
   abbrev pub Row : ℕ → ℕ → List FocusPoint → Type 0
   Row i n ps = (n ≡ length (listed_between s a i)) × (ps ≡ places (listed_between s a i))
@@ -81,27 +76,25 @@ module _ (s : Sheet) (a : ℕ) where
           listed_more i ha ∙ rw (← as_placed s i q l e, t) (append-nil (listed_between s a i)) in
           rw g (em ∙ r.0, eq ∙ r.1)
 
-  -- once the primary has been seen, the present frame and its index are known
-  abbrev pub Seen : ℕ → Size → ℕ → Type 0
-  Seen i f k = s.primary < i → (f ≡ present_frame s) × (k ≡ length (listed_between s a s.primary))
+  -- once the primary has been seen, its place and its index are known
+  abbrev pub Seen : ℕ → Carried → ℕ → Type 0
+  Seen i q k = s.primary < i → (q ≡ placed_at s s.primary) × (k ≡ length (listed_between s a s.primary))
 
-  module _ (i : ℕ) (f : Size) (k : ℕ) where
-    pub seen_now : (n : ℕ) → n ≡ length (listed_between s a i) → i ≡ s.primary → (p : Carried) → s.standing ≤ 64 → p ≡ reached s i
-        → f ≡ p.frame → k ≡ n → Seen (i + 1) f k
-    unfolding present_frame
-    seen_now n en h p l e ef ek g = (
-      ef ∙ ap (λ (q : Carried). q.frame) (as_placed s i p l e ∙ ap (placed_at s) h),
+  module _ (i : ℕ) (q : Carried) (k : ℕ) where
+    pub seen_now : (n : ℕ) → n ≡ length (listed_between s a i) → i ≡ s.primary → (p : Carried) → s.standing ≤ 64 → p ≡ reached s i → q ≡ p → k ≡ n
+        → Seen (i + 1) q k
+    seen_now n en h p l e eq ek g = (
+      eq ∙ as_placed s i p l e ∙ ap (placed_at s) h,
       ek ∙ en ∙ ap (λ (j : ℕ). length (listed_between s a j)) h,
     )
 
-    pub seen_before : (i ≡ s.primary → ⊥) → (f₀ : Size) (k₀ : ℕ) → Seen i f₀ k₀ → f ≡ f₀ → k ≡ k₀ → Seen (i + 1) f k
-    seen_before h f₀ k₀ g ef ek l = let z = g (omega arith) in (ef ∙ z.0, ek ∙ z.1)
+    pub seen_before : (i ≡ s.primary → ⊥) → (q₀ : Carried) (k₀ : ℕ) → Seen i q₀ k₀ → q ≡ q₀ → k ≡ k₀ → Seen (i + 1) q k
+    seen_before h q₀ k₀ g eq ek l = let z = g (omega arith) in (eq ∙ z.0, ek ∙ z.1)
 
-  pub all_seen : (b i n k : ℕ) (f : Size) (ps : List FocusPoint) → i ≤ b → b ≤ i → s.primary < b → Row i n ps → Seen i f k
-      → ◌≡◌ {A = Present} (record { shown = true; head = record { frame = f; count = n; index = k; mode = s.area_mode; origin = s.origin }; points = ps })
-      (gathered_of s a b)
-  unfolding gathered_of
-  all_seen b i n k f ps h₁ h₂ h r g =
+  pub all_seen : (b i n k : ℕ) (q : Carried) (ps : List FocusPoint) → i ≤ b → b ≤ i → s.primary < b → Row i n ps → Seen i q k
+      → ◌≡◌ {A = Present} (record { primary_place = q; points = ps; count = n; index = k }) (present_of s a b)
+  unfolding present_of
+  all_seen b i n k q ps h₁ h₂ h r g =
       let e : i ≡ b = omega arith in
       let z = g (omega arith) in
       rw (r.0, r.1, z.0, z.1, e)

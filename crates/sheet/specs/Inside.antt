@@ -1,5 +1,5 @@
 -- What only the code of this crate needs: no promise to a caller rests on it.
-use Rattle.std.specs.Prelude.{ℕ, zero, suc, Bool, true, cond, List, [], ◌++◌, leb, get_or, length}
+use Rattle.std.specs.Prelude.{ℕ, zero, suc, Bool, cond, List, [], ◌++◌, leb, get_or, length}
 use Rattle.reading.specs.declared.focus.InFocus.{InFocus}
 use Rattle.reading.specs.declared.geometry.Point.{Point}
 use Rattle.reading.specs.declared.geometry.Size.{Size}
@@ -8,10 +8,10 @@ use Rattle.placing.specs.declared.focus.FocusPoint.{FocusPoint}
 use Rattle.placing.specs.Laid.{places}
 use Rattle.sheet.specs.declared.Sheet.{Sheet}
 use Rattle.sheet.specs.declared.edits.Carried.{Carried}
-use Rattle.sheet.specs.declared.listing.Present.{Present}
+use Rattle.sheet.specs.declared.Present.{Present}
 use Rattle.sheet.specs.declared.orientation.Framed.{Framed}
 use Rattle.sheet.specs.Orientation.{point, moved_to, framed}
-use Rattle.sheet.specs.Sheet.{placed_at, present_frame}
+use Rattle.sheet.specs.Sheet.{placed_at}
 use Rattle.sheet.specs.Lists.{if_carried}
 
 -- of the load's first i points, those from index a on that no standing cut dropped, in the load's order and where the edits carry them
@@ -19,20 +19,14 @@ unfoldable pub listed_between : Sheet → ℕ → ℕ → List FocusPoint
 listed_between s a zero = []
 listed_between s a (suc i) = listed_between s a i ++ cond (leb a i) (if_carried (placed_at s i)) []
 
--- these in 39 places, in the present frame, and the primary's index among them
-unfoldable pub gathered_of : Sheet → ℕ → ℕ → Present
-gathered_of s a b =
+-- these in 39 places, and where the primary is
+unfoldable pub present_of : Sheet → ℕ → ℕ → Present
+present_of s a b =
     record {
-      shown = true;
-      head =
-          record {
-            frame = present_frame s;
-            count = length (listed_between s a b);
-            index = length (listed_between s a s.primary);
-            mode = s.area_mode;
-            origin = s.origin;
-          };
+      primary_place = placed_at s s.primary;
       points = places (listed_between s a b);
+      count = length (listed_between s a b);
+      index = length (listed_between s a s.primary);
     }
 
 -- an orientation in one step: the point at (x, y), the frame and the area as they are

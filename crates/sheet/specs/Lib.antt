@@ -6,5 +6,4 @@ pub mod Answer
 pub mod Listing
 pub mod Sheet
 pub mod Lists
-pub mod View
 pub mod Inside

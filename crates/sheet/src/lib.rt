@@ -1,14 +1,13 @@
 // The sheet: the points of one load, under edits that stand until they are taken back. A public method takes the sheet by value and
-// asks nothing of its caller; load, cut, orient and back give back the sheet that they leave, present, list and fit do not change it. A
-// refused call changes nothing.
+// asks nothing of its caller; load, cut, orient and back give back the sheet that they leave, list and fit do not change it. A refused
+// call changes nothing.
 ghost use Rattle.std.specs.Prelude.{◌≡◌, ◌<◌, ◌≤◌};
 ghost use Rattle.placing.specs.Focus.{focus_of};
 ghost use Rattle.sheet.specs.Answer.{edit_means};
 ghost use Rattle.sheet.specs.Sheet.{edited_means, loaded_means, fresh_sheet, load_sheet, usable, add_edit, orient_sheet, cut_sheet, back_sheet};
-ghost use Rattle.sheet.specs.Inside.{gathered_of};
+ghost use Rattle.sheet.specs.Inside.{present_of};
 
 use crate::edits::{Carried, Edit, EditAnswer};
-use crate::listing::{ListHead, Present};
 use crate::orientation::OptionalOrientation;
 use placing::focus::FocusPoint;
 use placing::load::{FocusAnswer, FocusOrigin};
@@ -16,8 +15,8 @@ use reading::focus::FocusAreaMode;
 use reading::geometry::{OptionalSize, Size};
 
 pub mod edits; // an edit, and the place of one point after some edits
-pub mod list; // what is shown of the points: where they are now, listed, and in another frame
-pub mod listing; // what is shown as a value, and six numbers a point in a lent buffer
+pub mod list; // the listing of the points where they are now, and in another frame
+pub mod listing; // six numbers a point in a lent buffer, and what is said beside them
 pub mod orientation; // one of the eight orientations, and a point under it
 mod subtraction; // subtraction that stops at 0
 
@@ -51,6 +50,16 @@ pub struct Edited {
 pub struct Loaded {
     pub answer: FocusAnswer,
     pub sheet: Sheet,
+}
+
+// The listed ones among some points, where the standing edits carry them: in 39 places, how many there are, and the primary's index
+// among them. And the primary's place, listed or not: its frame is the present one.
+#[derive(Drop)]
+struct Present {
+    primary_place: Carried,
+    points: [FocusPoint; 39],
+    count: usize,
+    index: usize,
 }
 
 impl Sheet {
@@ -134,26 +143,31 @@ impl Sheet {
         self.standing <= MOST_EDITS
     }
 
-    // What is shown of the points from index `from` up to `to`, the primary among them; the frame is the one that its walk ends in. This is
-    // the one place that takes points through the edits, so that the compiler draws the walk into this loop.
-    fn gather(self, from: usize, to: usize) -> Present
+    // What is listed of the points from index `from` up to `to`, the primary among them. This is the one place that takes points through
+    // the edits, so that the compiler draws the walk into this loop.
+    fn present(self, from: usize, to: usize) -> Present
         requires { (from ≤ self.primary) × (self.primary < to) × (to ≤ 39) × (self.standing ≤ 64) }
-        ensures { result ≡ gathered_of self from to }
+        ensures { result ≡ present_of self from to }
     {
+        let frame = self.frame;
         let standing = self.standing;
         let at = self.primary;
-        let old = self.frame;
-        // as the load has it, until the primary's walk is seen
-        let mut frame = old;
+        // as the load has it, until its own walk is seen
+        let unmoved = self.points[at];
+        let mut primary_place = Carried {
+            listed: true,
+            point: unmoved,
+            frame,
+        };
         let mut points = placing::load::no_places();
         let mut count: usize = 0;
         let mut index: usize = 0;
         let mut i = from;
         while i < to {
             let p = self.points[i];
-            let place = crate::edits::place_after(old, p, &self.edits, standing);
+            let place = crate::edits::place_after(frame, p, &self.edits, standing);
             if i == at {
-                frame = place.frame;
+                primary_place = place;
                 index = count;
             }
             if place.listed {
@@ -163,19 +177,11 @@ impl Sheet {
             }
             i += 1;
         }
-        let mode = self.area_mode;
-        let origin = self.origin;
-        let head = ListHead {
-            frame,
+        Present {
+            primary_place,
+            points,
             count,
             index,
-            mode,
-            origin,
-        };
-        Present {
-            shown: true,
-            head,
-            points,
         }
     }
 
@@ -237,18 +243,12 @@ impl Sheet {
             return self.ends(EditAnswer::Full);
         }
         let at = self.primary;
-        let alone = self.gather(at, at + 1);
-        let head = alone.head;
-        let frame = head.frame;
+        let present = self.present(at, at + 1);
+        let place = present.primary_place;
+        let frame = place.frame;
         if !crate::edits::is_good_cut(left, top, width, height, frame) {
             return self.ends(EditAnswer::BadCut);
         }
-        let point = alone.points[0];
-        let place = Carried {
-            listed: 0 < head.count,
-            point,
-            frame,
-        };
         let after = crate::edits::cut_point(left, top, width, height, place);
         if !after.listed {
             return self.ends(EditAnswer::DropsPrimary);

@@ -1,11 +1,10 @@
-// What a sheet shows: the points where the standing edits leave them, listed in a lent buffer, and in another frame.
+// The listing of the points where the standing edits leave them, and in another frame.
 ghost use Rattle.std.specs.Prelude.{◌≡◌, ◌++◌, ◌≤◌, length, take, drop};
 ghost use Rattle.sheet.specs.Lists.{scaled_all, list_outcome, list_buffer, fit_outcome, fit_buffer};
 ghost use Rattle.sheet.specs.Listing.{list_means};
-ghost use Rattle.sheet.specs.View.{present_of};
 
 use crate::Sheet;
-use crate::listing::{ListAnswer, ListHead, Present};
+use crate::listing::{ListAnswer, ListHead};
 use placing::focus::FocusPoint;
 use reading::geometry::Size;
 
@@ -25,31 +24,30 @@ fn scaled_points(points: [FocusPoint; 39], n: usize, old: Size, new: Size) -> [F
 }
 
 impl Sheet {
-    // What the sheet shows: the points that no standing cut dropped, in the load's order and where the standing edits carry them, with the
-    // present frame, the primary's index among them, the area mode and the origin. A sheet that is not usable shows nothing.
-    pub fn present(self) -> Present
-        ensures { result ≡ present_of self }
-    {
-        if !self.is_usable() {
-            return crate::listing::nothing_shown();
-        }
-        self.gather(0, self.count)
-    }
-
     // Writes the listed points at the buffer's front, in the load's order.
     pub fn list(self, out: &mut [u32]) -> ListAnswer
         ensures { (list_means result ≡ list_outcome self (length out.old)) × (out.new ≡ list_buffer self out.old) }
     {
-        let present = self.present();
-        if !present.shown {
+        if !self.is_usable() {
             return ListAnswer::Empty;
         }
-        let head = present.head;
+        let present = self.present(0, self.count);
+        let count = present.count;
         let points = present.points;
-        if !crate::listing::write_points(points, head.count, out) {
+        if !crate::listing::write_points(points, count, out) {
             return ListAnswer::Short;
         }
-        ListAnswer::Listed(head)
+        let place = present.primary_place;
+        let frame = place.frame;
+        let mode = self.area_mode;
+        let origin = self.origin;
+        ListAnswer::Listed(ListHead {
+            frame,
+            count,
+            index: present.index,
+            mode,
+            origin,
+        })
     }
 
     // Writes the listed points as `list` does, measured in a box. A blank side of `size` (0) is worked out from the present frame; the box
@@ -57,13 +55,14 @@ impl Sheet {
     pub fn fit(self, size: Size, out: &mut [u32]) -> ListAnswer
         ensures { (list_means result ≡ fit_outcome self size (length out.old)) × (out.new ≡ fit_buffer self size out.old) }
     {
-        let present = self.present();
-        if !present.shown {
+        if !self.is_usable() {
             return ListAnswer::Empty;
         }
-        let head = present.head;
+        let present = self.present(0, self.count);
+        let count = present.count;
         let points = present.points;
-        let frame = head.frame;
+        let place = present.primary_place;
+        let frame = place.frame;
         let worked = shape::worked_box(frame, size);
         if placing::focus::has_zero_side(worked) {
             return ListAnswer::ZeroBox;
@@ -71,17 +70,16 @@ impl Sheet {
         if !shape::same_shape(frame, worked) {
             return ListAnswer::ShapesDiffer;
         }
-        let count = head.count;
         let scaled = scaled_points(points, count, frame, worked);
         if !crate::listing::write_points(scaled, count, out) {
             return ListAnswer::Short;
         }
-        let mode = head.mode;
-        let origin = head.origin;
+        let mode = self.area_mode;
+        let origin = self.origin;
         ListAnswer::Listed(ListHead {
             frame: worked,
             count,
-            index: head.index,
+            index: present.index,
             mode,
             origin,
         })

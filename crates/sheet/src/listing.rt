@@ -3,7 +3,6 @@ ghost use Rattle.std.specs.Prelude.{◌≡◌, ◌+◌, ◌≤◌, length};
 ghost use Rattle.std.proofs.lemmas.List.Edits.{sets};
 ghost use Rattle.reading.specs.Outcome.{number_of};
 ghost use Rattle.sheet.specs.Listing.{list_means, six, has_room, with_points};
-ghost use Rattle.sheet.specs.View.{nothing_shown};
 
 use placing::focus::FocusPoint;
 use placing::load::FocusOrigin;
@@ -18,37 +17,6 @@ pub struct ListHead {
     pub index: usize,
     pub mode: FocusAreaMode,
     pub origin: FocusOrigin,
-}
-
-// What a sheet shows: whether there is a listing at all, what the listing says beside its points, and the listed points in the first of 39
-// places.
-#[derive(Drop)]
-pub struct Present {
-    pub shown: bool,
-    pub head: ListHead,
-    pub points: [FocusPoint; 39],
-}
-
-// What is shown where there is no listing.
-pub fn nothing_shown() -> Present
-    ensures { result ≡ nothing_shown }
-{
-    let points = placing::load::no_places();
-    let head = ListHead {
-        frame: Size {
-            width: 0,
-            height: 0,
-        },
-        count: 0,
-        index: 0,
-        mode: FocusAreaMode::NoMode,
-        origin: FocusOrigin::Recorded,
-    };
-    Present {
-        shown: false,
-        head,
-        points,
-    }
 }
 
 // How list and fit end: refused by 01's numbers 7 and 12, 02's 19 and 01's 13, in this order, or listed.

@@ -6,16 +6,14 @@
 // each, that differ in the last. Kinds: 1 that edit once more and a back, on a sheet; 2 a turn (orientation 6) and a back, on a
 // workspace. 3 a keep and a return on a workspace, under the name at the last of the eight places; 4 the keep alone. 5 a list on a
 // sheet, 6 on a workspace, into 240 places. 7 an orientation of number 0, which is refused and changes nothing, on a sheet, 8 on a
-// workspace: what is left is handing the state on. 9 a fit to the box on a sheet, into 240 places. 10 a report on a sheet, into 2,440
-// bytes. Prints for each job the kind, how many times, the last answer (`ok`, `no N`, or `none` without a call), how many edits stand at
-// the end, and the sum of the 240 places, modulo 2 to the 32nd, where there are some; for reports how many bytes the last one has, and
-// behind that line its text and an empty line. No contract can say what is printed: that is held to `stdout`.
+// workspace: what is left is handing the state on. 9 a fit to the box on a sheet, into 240 places. Prints for each job the kind, how
+// many times, the last answer (`ok`, `no N`, or `none` without a call), how many edits stand at the end, and the sum of the 240 places,
+// modulo 2 to the 32nd, where there are some. No contract can say what is printed: that is held to `stdout`.
 ghost use Rattle.std.specs.Prelude.{◌≡◌, length};
 
 use libc::{STDIN_FILENO, STDOUT_FILENO};
 use numbers::io::ByteOrder;
 use reading::geometry::{OptionalSize, Size};
-use report::ReportAnswer;
 use sheet::Sheet;
 use workspace::Workspace;
 
@@ -273,45 +271,6 @@ fn lists(load: &[u8], job: &[u8], kind: u8, count: u32) {
     number(b", sum ", sum(&out) as u64);
 }
 
-// The bytes that a report has; 0 where it is refused.
-fn bytes_of(answer: ReportAnswer) -> usize {
-    match answer {
-        ReportAnswer::Written(n) => n,
-        _ => 0,
-    }
-}
-
-fn reports_on_sheet(sheet: Sheet, out: &mut [u8], count: u32) -> usize {
-    let mut last = NO_CALL;
-    let mut bytes: usize = 0;
-    let mut left = count;
-    while left > 0 {
-        let answer = report::write_report(sheet.present(), out);
-        last = report::report_number(answer);
-        bytes = bytes_of(answer);
-        left -= 1;
-    }
-    print_end(last, sheet.standing);
-    bytes
-}
-
-// Room for a report of 39 points.
-fn report_space() -> [u8; 2440]
-    ensures { 2440 ≡ length result }
-{
-    [0; 2440]
-}
-
-// The reports of kind 10, in a buffer of their own, which is printed at the end.
-fn reports(load: &[u8], job: &[u8], count: u32) {
-    let mut space = report_space();
-    let out: &mut [u8] = &mut space;
-    let bytes = reports_on_sheet(sheet_of(load, job), out, count);
-    number(b", bytes ", bytes as u64);
-    text(b"\n");
-    text(numbers::io::head(out, bytes));
-}
-
 // Does one job.
 fn run(load: &[u8], job: &[u8]) {
     let kind = numbers::io::u8_at(job, 0);
@@ -329,7 +288,6 @@ fn run(load: &[u8], job: &[u8]) {
         7 => refusals_on_sheet(sheet_of(load, job), count),
         8 => refusals_on_workspace(workspace_of(load, job), count),
         9 => lists(load, job, kind, count),
-        10 => reports(load, job, count),
         _ => text(b": no such kind"),
     }
     text(b"\n");

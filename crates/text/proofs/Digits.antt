@@ -45,7 +45,7 @@ tenths_in P few more (suc k) n h =
 tenths : (P : ℕ → Type 0) → ((n : ℕ) → n < 10 → P n) → ((n : ℕ) → 10 ≤ n → P (n / 10) → P n) → (n : ℕ) → P n
 tenths P few more n = tenths_in P few more n n (omega arith)
 
-pub read_append : (ds es : List ℕ) (a : ℕ) → read_from a (ds ++ es) ≡ read_from (read_from a ds) es
+read_append : (ds es : List ℕ) (a : ℕ) → read_from a (ds ++ es) ≡ read_from (read_from a ds) es
 unfolding read_from
 read_append [] es a = refl
 read_append (d ∷ ds) es a = read_append ds es (10 * a + (d - 48))
@@ -59,7 +59,7 @@ read_back =
     (λ n h r. rw (digits_more n h, read_append (digits_of (n / 10)) (last_digit n ∷ []) 0, r) (omega arith))
 
 -- ---- each is a digit
-pub last_only : (n : ℕ) → IsDigit (last_digit n)
+last_only : (n : ℕ) → IsDigit (last_digit n)
 last_only n = (omega arith, omega arith)
 
 module _ (ds : List ℕ) (d : ℕ) where
@@ -81,7 +81,7 @@ digits_only =
     (λ n h r. rw (digits_more n h) (only_more (digits_of (n / 10)) (last_digit n) r (last_only n)))
 
 -- ---- no zero leads, and there is a first digit
-pub some_digit : (n : ℕ) → 0 < length (digits_of n)
+some_digit : (n : ℕ) → 0 < length (digits_of n)
 some_digit n =
     ⊎_elim
     (λ (l : n < 10). rw (digits_few n l) (omega arith))

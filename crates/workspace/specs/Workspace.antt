@@ -9,8 +9,6 @@ use Rattle.sheet.specs.declared.Sheet.{Sheet}
 use Rattle.sheet.specs.Answer.{edit_means}
 use Rattle.sheet.specs.Sheet.{leaves, kept_by, fresh_sheet, loaded_sheet, usable, with_edits}
 use Rattle.sheet.specs.Lists.{list_outcome, list_buffer, fit_outcome, fit_buffer}
-use Rattle.sheet.specs.declared.listing.Present.{Present}
-use Rattle.sheet.specs.View.{View, view_of, laid_view}
 use Rattle.workspace.specs.declared.Checkpoint.{Checkpoint}
 use Rattle.workspace.specs.declared.Workspace.{Workspace}
 use Rattle.workspace.specs.declared.CheckpointAnswer.{CheckpointAnswer}
@@ -67,13 +65,6 @@ is_counted w = leb w.count 8
 -- cut, orientation and back, by how they end on the sheet
 unfoldable pub edit_in : Workspace → Outcome (List ℕ) × Sheet → Outcome (List ℕ) × Workspace
 edit_in w r = cond (is_counted w) (r.0, with_sheet w r.1) (kept_by 7 w)
-
--- what the sheet shows
-unfoldable pub view_in : Workspace → Outcome View
-view_in w = cond (is_counted w) (view_of w.sheet) (refused 7)
-
-abbrev pub present_in : Workspace → Present
-present_in w = laid_view (view_in w)
 
 -- list and fit, for a buffer of m places, and the buffer that they leave
 unfoldable pub list_outcome_in : Workspace → ℕ → Outcome (List ℕ)

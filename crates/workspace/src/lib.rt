@@ -1,18 +1,18 @@
 // A workspace: a sheet with its checkpoints. A checkpoint (02: named stand) keeps the edits that stood under a name of 1 to 16 bytes, and
-// there are at most eight. A public method takes the workspace by value and asks nothing of its caller; present, list and fit do not
-// change it, the others give back the workspace that they leave. A refused call changes nothing.
+// there are at most eight. A public method takes the workspace by value and asks nothing of its caller; list and fit do not change it,
+// the others give back the workspace that they leave. A refused call changes nothing.
 ghost use Rattle.std.specs.Prelude.{◌≡◌, ◌<◌, ◌≤◌, length, replicate};
 ghost use Rattle.reading.specs.Outcome.{number_of};
 ghost use Rattle.placing.specs.Focus.{focus_of};
 ghost use Rattle.sheet.specs.Sheet.{edited_means, orient_sheet, cut_sheet, back_sheet};
 ghost use Rattle.sheet.specs.Listing.{list_means};
 ghost use Rattle.workspace.specs.Names.{in_places};
-ghost use Rattle.workspace.specs.Workspace.{checkpoint_means, checkpointed_means, edited_workspace_means, loaded_workspace_means, blank_checkpoint, without_names, fresh_workspace, load_in, with_sheet, is_counted, usable_in, edit_in, present_in, list_outcome_in, list_buffer_in, fit_outcome_in, fit_buffer_in, place_of, keep_at, keep_in, return_at, return_in};
+ghost use Rattle.workspace.specs.Workspace.{checkpoint_means, checkpointed_means, edited_workspace_means, loaded_workspace_means, blank_checkpoint, without_names, fresh_workspace, load_in, with_sheet, is_counted, usable_in, edit_in, list_outcome_in, list_buffer_in, fit_outcome_in, fit_buffer_in, place_of, keep_at, keep_in, return_at, return_in};
 
 use placing::load::FocusAnswer;
 use reading::geometry::{OptionalSize, Size};
 use sheet::edits::EditAnswer;
-use sheet::listing::{ListAnswer, Present};
+use sheet::listing::ListAnswer;
 use sheet::{Edited, Sheet};
 
 mod names; // names of 1 to 16 bytes
@@ -214,17 +214,6 @@ impl Workspace {
         let sheet = self.sheet;
         let r = sheet.back();
         self.with_edited(r)
-    }
-
-    // What the sheet shows.
-    pub fn present(self) -> Present
-        ensures { result ≡ present_in self }
-    {
-        if !self.is_counted() {
-            return sheet::listing::nothing_shown();
-        }
-        let sheet = self.sheet;
-        sheet.present()
     }
 
     // The sheet's list and fit.

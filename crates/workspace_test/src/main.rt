@@ -2,15 +2,13 @@
 // first, then what it takes, then zeros. 1 load: a byte of flags (1 raw size, 2 picture size), the two sizes as four 32-bit
 // numbers, the model's length in a byte, the block's length in two, the model, the block. 2 cut: left, top, width, height. 5 back.
 // 6 list: the buffer's places in a byte. 7 fit: width, height, and the buffer's places in a byte. 9 orient: the number in a byte.
-// 10 keep, 11 return: the name's length in a byte, the name. 13 report: the buffer's bytes in two. Another code is taken for 7. Numbers
-// are big-endian. Place i of a buffer holds i + 1 before a call, and byte i of a report's buffer, which is printed in hexadecimal, i mod
-// 250 + 1. No contract can say what is printed: that is held to `stdout`.
+// 10 keep, 11 return: the name's length in a byte, the name. Another code is taken for 7. Numbers are big-endian. Place i of a buffer
+// holds i + 1 before a call. No contract can say what is printed: that is held to `stdout`.
 ghost use Rattle.std.specs.Prelude.{◌≡◌, length};
 
 use libc::{STDIN_FILENO, STDOUT_FILENO};
 use numbers::io::ByteOrder;
 use reading::geometry::{OptionalSize, Size};
-use report::ReportAnswer;
 use sheet::listing::{ListAnswer, ListHead};
 use workspace::{Checkpointed, EditedWorkspace, LoadedWorkspace, Workspace};
 
@@ -183,85 +181,6 @@ fn show(workspace: Workspace, call: &[u8], code: u8) {
     }
 }
 
-// `bytes` and their number, or `no` and the number.
-fn print_report(a: ReportAnswer) {
-    match a {
-        ReportAnswer::Written(n) => {
-            text(b"bytes ");
-            io::print_decimal(STDOUT_FILENO, n as u64);
-        }
-        _ => number(b"no ", report::report_number(a)),
-    }
-}
-
-// The digit of a number below 16, in lower case.
-fn hex_digit(n: u8) -> u8 {
-    let digit = n % 16;
-    if digit < 10 {
-        return b'0' + digit;
-    }
-    b'a' + (digit - 10)
-}
-
-// The first 2,048 bytes, or all if there are no more, in hexadecimal; in one write.
-fn print_piece(piece: &[u8]) {
-    let mut digits = io::buffer();
-    let mut i: usize = 0;
-    while i < 2048 {
-        if piece.len() <= i {
-            break;
-        }
-        digits[2 * i] = hex_digit(piece[i] / 16);
-        digits[2 * i + 1] = hex_digit(piece[i] % 16);
-        i += 1;
-    }
-    text(&digits[..2 * i]);
-}
-
-// At most 65,536 bytes in hexadecimal.
-fn print_bytes(out: &[u8]) {
-    let mut i: usize = 0;
-    while i < 32 {
-        let piece = numbers::io::tail(out, 2048 * i);
-        if piece.len() == 0 {
-            return;
-        }
-        print_piece(piece);
-        i += 1;
-    }
-}
-
-// Puts i mod 250 + 1 at place i.
-fn fill(out: &mut [u8]) {
-    let mut i: usize = 0;
-    while i < out.len() {
-        out[i] = (i % 250 + 1) as u8;
-        i += 1;
-    }
-}
-
-fn report_into(workspace: Workspace, out: &mut [u8]) {
-    fill(out);
-    print_report(report::write_report(workspace.present(), out));
-    text(b" | ");
-    print_bytes(out);
-    text(b"\n");
-}
-
-fn report_on(workspace: Workspace, call: &[u8], out: &mut [u8])
-    requires { length out.old ≡ 65536 }
-{
-    let n = numbers::io::u16_of(numbers::io::tail(call, 1), ByteOrder::Big) as usize;
-    report_into(workspace, &mut out[..n]);
-}
-
-// A report on a buffer of its own.
-fn show_report(workspace: Workspace, call: &[u8]) {
-    let mut space = io::large_buffer();
-    let out: &mut [u8] = &mut space;
-    report_on(workspace, call, out);
-}
-
 // Answers one call, and gives the workspace that it leaves.
 fn answer(workspace: Workspace, call: &[u8]) -> Workspace {
     let code = numbers::io::u8_at(call, 0);
@@ -272,10 +191,6 @@ fn answer(workspace: Workspace, call: &[u8]) -> Workspace {
         9 => orient(workspace, call),
         10 => after_checkpoint(workspace.keep(name_in(call))),
         11 => after_checkpoint(workspace.return_to(name_in(call))),
-        13 => {
-            show_report(workspace, call);
-            workspace
-        }
         _ => {
             show(workspace, call, code);
             workspace

@@ -6,7 +6,6 @@
 mod blocks;
 mod contents;
 mod edits;
-mod report;
 mod states;
 
 use std::env;

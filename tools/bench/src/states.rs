@@ -4,20 +4,16 @@
 use std::hint::black_box;
 
 use crate::edits::{self, Edit, Head, ORIENTATIONS, TURN};
-use crate::report;
 
 /// The kinds of state_bench that write into a buffer, whose sum is printed.
 const LISTS: [u8; 3] = [5, 6, 9];
-
-/// The one that writes a report, whose text is printed.
-const REPORT: u8 = 10;
 
 /// The box of a job that fits nothing.
 pub const NO_BOX: [u32; 2] = [0; 2];
 
 /// What is timed: a kind of state_bench, its name, whether a cut of the whole frame stands before it and not a turn, and its box. A state
 /// that comes later has its kinds here and in `plain`.
-pub const KINDS: [(u8, &str, bool, [u32; 2]); 13] = [
+pub const KINDS: [(u8, &str, bool, [u32; 2]); 12] = [
     (1, "a turn and a back, on a sheet", false, NO_BOX),
     (2, "a turn and a back, on a workspace", false, NO_BOX),
     (1, "a cut and a back, on a sheet behind a cut", true, NO_BOX),
@@ -30,7 +26,6 @@ pub const KINDS: [(u8, &str, bool, [u32; 2]); 13] = [
     (9, "a fit of 39 points behind a turn, on a sheet", false, [1004, 1504]),
     (9, "a fit of 39 points with the height blank, behind a turn, on a sheet", false, [1004, 0]),
     (9, "a refused fit (19) behind a turn, on a sheet", false, [800, 1200]),
-    (REPORT, "a report of 39 points behind a turn, on a sheet", false, NO_BOX),
 ];
 
 /// A listing's head with mode and origin, or the number that refuses it.
@@ -155,14 +150,6 @@ impl Sheet {
         }
         let head = edits::fit(self.frame, &self.points[..self.count], self.primary, self.standing(), to, out)?;
         Ok((head, [self.mode, self.origin]))
-    }
-
-    /// Writes the report of the points into the buffer; gives how many bytes it has.
-    fn report(self, out: &mut [u8]) -> Result<usize, u32> {
-        let mut places = [0; 6 * 39];
-        let (Head { frame: [width, height], count, index }, [mode, origin]) = self.list(&mut places)?;
-        let head = [count as u32, width, height, index as u32, mode, origin];
-        report::write(head, places[..6 * count].as_chunks().0, out)
     }
 }
 
@@ -302,12 +289,6 @@ pub fn plain<C: Calling>(sheet: Sheet, kind: u8, edit: Edit, to: [u32; 2], count
     let on_sheet = |(last, sheet): (_, Sheet)| (last, sheet.standing);
     let on_workspace = |(last, workspace): (_, Workspace)| (last, workspace.sheet.standing);
     let keep = |workspace: Workspace| workspace.keep(black_box(&name));
-    let (mut bytes, mut written) = ([0; report::LONGEST], 0);
-    let mut report = |sheet: Sheet| {
-        let answer = C::call(sheet, |sheet| sheet.report(black_box(&mut bytes)));
-        written = answer.unwrap_or(0);
-        (answer.err().unwrap_or(0), sheet)
-    };
     let (last, standing) = match kind {
         1 => on_sheet(over(sheet, count, |sheet| both::<C, _>(sheet, |sheet| sheet.edited(black_box(edit)), Sheet::back))),
         2 => on_workspace(over(workspace, count, |workspace| {
@@ -324,7 +305,6 @@ pub fn plain<C: Calling>(sheet: Sheet, kind: u8, edit: Edit, to: [u32; 2], count
         7 => on_sheet(over(sheet, count, |sheet| C::call(sheet, |sheet| sheet.orient(black_box(0))))),
         8 => on_workspace(over(workspace, count, |workspace| C::call(workspace, |workspace| workspace.orient(black_box(0))))),
         9 => on_sheet(over(sheet, count, |sheet| (list_number(C::call(sheet, |sheet| sheet.fit(black_box(to), black_box(out)))), sheet))),
-        REPORT => on_sheet(over(sheet, count, &mut report)),
         _ => panic!("no kind {kind}"),
     };
     let answer = match last {
@@ -333,11 +313,7 @@ pub fn plain<C: Calling>(sheet: Sheet, kind: u8, edit: Edit, to: [u32; 2], count
         Some(number) => format!("no {number}"),
     };
     let sum = || out.iter().fold(0, |sum: u32, &number| sum.wrapping_add(number));
-    let ending = match kind {
-        REPORT => format!(", bytes {written}\n{}", str::from_utf8(&bytes[..written]).unwrap()),
-        _ if LISTS.contains(&kind) => format!(", sum {}", sum()),
-        _ => String::new(),
-    };
+    let ending = if LISTS.contains(&kind) { format!(", sum {}", sum()) } else { String::new() };
     format!("kind {kind}, times {count}: {answer}, standing {standing}{ending}\n")
 }
 

@@ -20,7 +20,7 @@ same_length : tie.Need-same-length
 same_length c = search rules
 
 returns : tie.Need-returns
-returns c = texts.listing_text _ _ _ c.before.before.before.before.before.before.before.before.before.head_numbers_lem.ensures (c.before.before.before.before.before.before.before.before.before.before.before.before.requires.0) c.before.before.before.before.before.before.put-head.ensures c.before.before.put-points.ensures
+returns c = texts.listing_text _ _ _ c.before.before.before.before.before.before.before.before.before.head-numbers.ensures (c.before.before.before.before.before.before.before.before.before.before.before.before.requires.0) c.before.before.before.before.before.before.put-head.ensures c.before.before.put-points.ensures
 
 pub put-listing-spec : {M : Type 1} → statement M
 put-listing-spec =

@@ -19,7 +19,7 @@ unfolding lies_on
 returns c =
     rw (
       sym c.before.before.before.center-lies-on.ensures ∙ c.before.before.if1.true,
-      sym c.before.no_area_lem.ensures ∙ c.if2.true,
+      sym c.before.no-area.ensures ∙ c.if2.true,
       c.if2.true,
     )
 
@@ -28,7 +28,7 @@ unfolding lies_on
 returns-2 c =
     rw (
       sym c.before.before.before.before.center-lies-on.ensures ∙ c.before.before.before.if1.true,
-      sym c.before.before.no_area_lem.ensures ∙ c.before.if2.false,
+      sym c.before.before.no-area.ensures ∙ c.before.if2.false,
       c.area-lies-on.ensures,
     )
 

@@ -10,7 +10,7 @@ no-area-requires c κs = search rules
 
 returns : tie.Need-returns
 unfolding scaled_size kept_area scaled_area
-returns c = rw (sym c.before.no_area_lem.ensures ∙ c.if1.true)
+returns c = rw (sym c.before.no-area.ensures ∙ c.if1.true)
 
 scaled-side-requires : tie.Need-scaled-side-requires
 scaled-side-requires c κs = search rules
@@ -25,7 +25,7 @@ returns-2 : tie.Need-returns-2
 unfolding scaled_size kept_area scaled_area
 returns-2 c =
     rw (
-      sym c.before.before.before.before.before.no_area_lem.ensures ∙ c.before.before.before.before.if1.false,
+      sym c.before.before.before.before.before.no-area.ensures ∙ c.before.before.before.before.if1.false,
       ← c.before.before.before.scaled-side.ensures,
       ← c.before.before.scaled-side2.ensures,
       sym c.before.has-zero-side.ensures ∙ c.if2.true,
@@ -35,7 +35,7 @@ returns-3 : tie.Need-returns-3
 unfolding scaled_size kept_area scaled_area
 returns-3 c =
     rw (
-      sym c.before.before.before.before.before.no_area_lem.ensures ∙ c.before.before.before.before.if1.false,
+      sym c.before.before.before.before.before.no-area.ensures ∙ c.before.before.before.before.if1.false,
       ← c.before.before.before.scaled-side.ensures,
       ← c.before.before.scaled-side2.ensures,
       sym c.before.has-zero-side.ensures ∙ c.if2.false,

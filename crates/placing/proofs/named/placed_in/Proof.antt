@@ -94,13 +94,13 @@ returns : tie.Need-returns
 returns c =
     let a = c.before.before.before.before.before.args in
     none a.window a.primary a.mask a.area-mode _ c.before.before.before.before.listed-points.ensures _
-    c.before.before.index_of.ensures c.before.if1.true _ c.no-points.ensures
+    c.before.before.index_of_lem.ensures c.before.if1.true _ c.no-points.ensures
 
 returns-2 : tie.Need-returns-2
 returns-2 c =
     let a = c.before.before.before.before.before.args in
     some a.window a.primary a.mask a.area-mode _ c.before.before.before.before.listed-points.ensures _
-    c.before.before.index_of.ensures c.before.if1.false
+    c.before.before.index_of_lem.ensures c.before.if1.false
 
 pub placed-in-spec : {M : Type 1} → statement M
 placed-in-spec =

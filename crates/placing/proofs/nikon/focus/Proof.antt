@@ -64,7 +64,7 @@ returns-2 c =
 returns-3 : tie.Need-returns-3
 returns-3 c =
     names _ _ c.before.before.before.before.locate.ensures _ _ _ _ _ c.before.before.window.given.1
-    c.placed_in_lem.ensures
+    c.placed-in.ensures
 
 pub focus-spec : {M : Type 1} → statement M
 focus-spec =

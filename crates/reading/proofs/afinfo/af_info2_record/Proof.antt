@@ -45,7 +45,7 @@ enum_told : tie.Need-enum-told
 enum_told c = search rules
 
 returns-2 : tie.Need-returns-2
-returns-2 c = read c.before.before.before.before.before.before.before.before.args.order c.before.before.before.before.before.before.before.before.args.value.now _ c.before.before.before.before.before.before.layout_of.ensures _ c.before.before.before.before.known.given.1 c.before.if1.false _ c.record_in_lem.ensures
+returns-2 c = read c.before.before.before.before.before.before.before.before.args.order c.before.before.before.before.before.before.before.before.args.value.now _ c.before.before.before.before.before.before.layout_of.ensures _ c.before.before.before.before.known.given.1 c.before.if1.false _ c.record-in.ensures
 
 returns-3 : tie.Need-returns-3
 returns-3 c = unknown c.before.before.before.before.args.order c.before.before.before.before.args.value.now _ c.before.before.layout_of.ensures c.enum_told.given.1

@@ -61,7 +61,7 @@ is-rectangle-requires : tie.Need-is-rectangle-requires
 is-rectangle-requires c κs = search rules
 
 returns-2 : tie.Need-returns-2
-returns-2 c = other-kind c.before.before.before.before.before.before.before.before.args.order c.before.before.before.before.before.before.before.before.args.block.now c.before.before.before.before.before.before.before.before.args.raw _ c.before.before.before.before.before.before.find-entry.ensures _ c.before.before.before.before.before.is-kept.ensures c.before.before.before.before.if1.false _ c.before.before.before.type-of.ensures _ c.before.before.count_of.ensures _ c.before.is-rectangle.ensures c.if2.true
+returns-2 c = other-kind c.before.before.before.before.before.before.before.before.args.order c.before.before.before.before.before.before.before.before.args.block.now c.before.before.before.before.before.before.before.before.args.raw _ c.before.before.before.before.before.before.find-entry.ensures _ c.before.before.before.before.before.is-kept.ensures c.before.before.before.before.if1.false _ c.before.before.before.type-of.ensures _ c.before.before.count_of_lem.ensures _ c.before.is-rectangle.ensures c.if2.true
 
 value-of-requires : tie.Need-value-of-requires
 value-of-requires c κs = search rules
@@ -88,10 +88,10 @@ enum_told : tie.Need-enum-told
 enum_told c = search rules
 
 returns-3 : tie.Need-returns-3
-returns-3 c = four c.before.before.before.before.before.before.before.before.before.before.before.before.before.before.before.before.before.args.order _ _ c.before.before.before.before.before.before.before.before.before.before.before.before.before.before.before.before.before.args.raw _ _ _ _ _ _ c.before.before.raw.given.1 c.before.before.before.before.before.before.before.number_at_lem.ensures c.before.before.before.before.before.before.number-at2.ensures c.before.before.before.before.before.number-at3.ensures c.before.before.before.before.number-at4.ensures c.inside_raw_lem.ensures ∙ rectangle c.before.before.before.before.before.before.before.before.before.before.before.before.before.before.before.before.before.args.order c.before.before.before.before.before.before.before.before.before.before.before.before.before.before.before.before.before.args.block.now c.before.before.before.before.before.before.before.before.before.before.before.before.before.before.before.before.before.args.raw _ c.before.before.before.before.before.before.before.before.before.before.before.before.before.before.before.find-entry.ensures _ c.before.before.before.before.before.before.before.before.before.before.before.before.before.before.is-kept.ensures c.before.before.before.before.before.before.before.before.before.before.before.before.before.if1.false _ c.before.before.before.before.before.before.before.before.before.before.before.before.type-of.ensures _ c.before.before.before.before.before.before.before.before.before.before.before.count_of.ensures _ c.before.before.before.before.before.before.before.before.before.before.is-rectangle.ensures c.before.before.before.before.before.before.before.before.before.if2.false _ c.before.before.before.before.before.before.before.before.value_of_lem.ensures
+returns-3 c = four c.before.before.before.before.before.before.before.before.before.before.before.before.before.before.before.before.before.args.order _ _ c.before.before.before.before.before.before.before.before.before.before.before.before.before.before.before.before.before.args.raw _ _ _ _ _ _ c.before.before.raw.given.1 c.before.before.before.before.before.before.before.number_at_lem.ensures c.before.before.before.before.before.before.number-at2.ensures c.before.before.before.before.before.number-at3.ensures c.before.before.before.before.number-at4.ensures c.inside-raw.ensures ∙ rectangle c.before.before.before.before.before.before.before.before.before.before.before.before.before.before.before.before.before.args.order c.before.before.before.before.before.before.before.before.before.before.before.before.before.before.before.before.before.args.block.now c.before.before.before.before.before.before.before.before.before.before.before.before.before.before.before.before.before.args.raw _ c.before.before.before.before.before.before.before.before.before.before.before.before.before.before.before.find-entry.ensures _ c.before.before.before.before.before.before.before.before.before.before.before.before.before.before.is-kept.ensures c.before.before.before.before.before.before.before.before.before.before.before.before.before.if1.false _ c.before.before.before.before.before.before.before.before.before.before.before.before.type-of.ensures _ c.before.before.before.before.before.before.before.before.before.before.before.count_of_lem.ensures _ c.before.before.before.before.before.before.before.before.before.before.is-rectangle.ensures c.before.before.before.before.before.before.before.before.before.if2.false _ c.before.before.before.before.before.before.before.before.value_of_lem.ensures
 
 returns-4 : tie.Need-returns-4
-returns-4 c = none c.before.before.before.before.before.before.before.before.before.before.before.before.before.before.before.args.order _ _ c.before.before.before.before.before.before.before.before.before.before.before.before.before.before.before.args.raw c.enum_told.given.1 ∙ rectangle c.before.before.before.before.before.before.before.before.before.before.before.before.before.before.before.args.order c.before.before.before.before.before.before.before.before.before.before.before.before.before.before.before.args.block.now c.before.before.before.before.before.before.before.before.before.before.before.before.before.before.before.args.raw _ c.before.before.before.before.before.before.before.before.before.before.before.before.before.find-entry.ensures _ c.before.before.before.before.before.before.before.before.before.before.before.before.is-kept.ensures c.before.before.before.before.before.before.before.before.before.before.before.if1.false _ c.before.before.before.before.before.before.before.before.before.before.type-of.ensures _ c.before.before.before.before.before.before.before.before.before.count_of.ensures _ c.before.before.before.before.before.before.before.before.is-rectangle.ensures c.before.before.before.before.before.before.before.if2.false _ c.before.before.before.before.before.before.value_of_lem.ensures
+returns-4 c = none c.before.before.before.before.before.before.before.before.before.before.before.before.before.before.before.args.order _ _ c.before.before.before.before.before.before.before.before.before.before.before.before.before.before.before.args.raw c.enum_told.given.1 ∙ rectangle c.before.before.before.before.before.before.before.before.before.before.before.before.before.before.before.args.order c.before.before.before.before.before.before.before.before.before.before.before.before.before.before.before.args.block.now c.before.before.before.before.before.before.before.before.before.before.before.before.before.before.before.args.raw _ c.before.before.before.before.before.before.before.before.before.before.before.before.before.find-entry.ensures _ c.before.before.before.before.before.before.before.before.before.before.before.before.is-kept.ensures c.before.before.before.before.before.before.before.before.before.before.before.if1.false _ c.before.before.before.before.before.before.before.before.before.before.type-of.ensures _ c.before.before.before.before.before.before.before.before.before.count_of_lem.ensures _ c.before.before.before.before.before.before.before.before.is-rectangle.ensures c.before.before.before.before.before.before.before.if2.false _ c.before.before.before.before.before.before.value_of_lem.ensures
 
 pub crop-area-spec : {M : Type 1} → statement M
 crop-area-spec =

@@ -52,7 +52,7 @@ count-of-requires : tie.Need-count-of-requires
 count-of-requires c κs = search rules
 
 returns-2 : tie.Need-returns-2
-returns-2 c = other-count c.before.before.before.before.before.before.args.order c.before.before.before.before.before.before.args.block.now _ c.before.before.before.before.find-entry.ensures _ c.before.before.before.type-of.ensures c.before.before.if1.false _ c.before.count_of.ensures c.if2.true
+returns-2 c = other-count c.before.before.before.before.before.before.args.order c.before.before.before.before.before.before.args.block.now _ c.before.before.before.before.find-entry.ensures _ c.before.before.before.type-of.ensures c.before.before.if1.false _ c.before.count_of_lem.ensures c.if2.true
 
 value-of-requires : tie.Need-value-of-requires
 value-of-requires c κs = search rules
@@ -79,7 +79,7 @@ number-at-requires-7 : tie.Need-number-at-requires-7
 number-at-requires-7 c κs = search rules
 
 returns-3 : tie.Need-returns-3
-returns-3 c = seven c.before.before.before.before.before.before.before.before.before.before.before.before.before.before.args.order _ _ _ _ _ _ _ _ c.before.before.before.before.before.before.number_at_lem.ensures c.before.before.before.before.before.number-at2.ensures c.before.before.before.before.number-at3.ensures c.before.before.before.number-at4.ensures c.before.before.number-at5.ensures c.before.number-at6.ensures c.number-at7.ensures ∙ recorded c.before.before.before.before.before.before.before.before.before.before.before.before.before.before.args.order c.before.before.before.before.before.before.before.before.before.before.before.before.before.before.args.block.now _ c.before.before.before.before.before.before.before.before.before.before.before.before.find-entry.ensures _ c.before.before.before.before.before.before.before.before.before.before.before.type-of.ensures c.before.before.before.before.before.before.before.before.before.before.if1.false _ c.before.before.before.before.before.before.before.before.before.count_of.ensures c.before.before.before.before.before.before.before.before.if2.false _ c.before.before.before.before.before.before.before.value_of_lem.ensures
+returns-3 c = seven c.before.before.before.before.before.before.before.before.before.before.before.before.before.before.args.order _ _ _ _ _ _ _ _ c.before.before.before.before.before.before.number_at_lem.ensures c.before.before.before.before.before.number-at2.ensures c.before.before.before.before.number-at3.ensures c.before.before.before.number-at4.ensures c.before.before.number-at5.ensures c.before.number-at6.ensures c.number-at7.ensures ∙ recorded c.before.before.before.before.before.before.before.before.before.before.before.before.before.before.args.order c.before.before.before.before.before.before.before.before.before.before.before.before.before.before.args.block.now _ c.before.before.before.before.before.before.before.before.before.before.before.before.find-entry.ensures _ c.before.before.before.before.before.before.before.before.before.before.before.type-of.ensures c.before.before.before.before.before.before.before.before.before.before.if1.false _ c.before.before.before.before.before.before.before.before.before.count_of_lem.ensures c.before.before.before.before.before.before.before.before.if2.false _ c.before.before.before.before.before.before.before.value_of_lem.ensures
 
 pub crop-hi-speed-spec : {M : Type 1} → statement M
 crop-hi-speed-spec =

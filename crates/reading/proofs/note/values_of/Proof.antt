@@ -40,7 +40,7 @@ returns : tie.Need-returns
 returns c =
     let a = c.before.before.before.before.before.before.args in
     readable a.block.now a.raw _ c.before.before.before.before.parse-block.ensures
-    _ c.before.before.order.given.1 _ c.values_in_lem.ensures
+    _ c.before.before.order.given.1 _ c.values-in.ensures
 
 returns-2 : tie.Need-returns-2
 returns-2 c =

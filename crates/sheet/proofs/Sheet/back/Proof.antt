@@ -30,13 +30,13 @@ ends-requires : tie.Need-ends-requires
 ends-requires c κs = search rules
 
 returns : tie.Need-returns
-returns c = c.ends.ensures ∙ empty _ _ c.before.before.is_usable.ensures c.before.if1.true
+returns c = c.ends.ensures ∙ empty _ _ c.before.before.is-usable.ensures c.before.if1.true
 
 ends-requires-2 : tie.Need-ends-requires-2
 ends-requires-2 c κs = search rules
 
 returns-2 : tie.Need-returns-2
-returns-2 c = c.ends2.ensures ∙ none-stands _ _ c.before.before.before.is_usable.ensures c.before.before.if1.false c.before.if2.true
+returns-2 c = c.ends2.ensures ∙ none-stands _ _ c.before.before.before.is-usable.ensures c.before.before.if1.false c.before.if2.true
 
 sub-sheet : tie.Need-overflow-sub-sheet
 sub-sheet c = search rules
@@ -45,7 +45,7 @@ ends-requires-3 : tie.Need-ends-requires-3
 ends-requires-3 c κs = search rules
 
 returns-3 : tie.Need-returns-3
-returns-3 c = c.ends3.ensures ∙ one_less _ _ c.before.before.before.is_usable.ensures c.before.before.if1.false c.before.if2.false
+returns-3 c = c.ends3.ensures ∙ one_less _ _ c.before.before.before.is-usable.ensures c.before.before.if1.false c.before.if2.false
 
 pub back-spec : {M : Type 1} → statement M
 back-spec =

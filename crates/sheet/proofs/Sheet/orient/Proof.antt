@@ -25,14 +25,14 @@ ends-requires c κs = search rules
 
 returns : tie.Need-returns
 unfolding orient_sheet
-returns c = c.ends.ensures ∙ when_empty _ _ c.before.before.is_usable.ensures _ c.before.if1.true
+returns c = c.ends.ensures ∙ when_empty _ _ c.before.before.is-usable.ensures _ c.before.if1.true
 
 ends-requires-2 : tie.Need-ends-requires-2
 ends-requires-2 c κs = search rules
 
 returns-2 : tie.Need-returns-2
 unfolding orient_sheet
-returns-2 c = c.ends2.ensures ∙ when_full _ _ c.before.before.before.before.is_usable.ensures _ c.before.before.before.if1.false c.before.if2.true
+returns-2 c = c.ends2.ensures ∙ when_full _ _ c.before.before.before.before.is-usable.ensures _ c.before.before.before.if1.false c.before.if2.true
 
 orientation-of-requires : tie.Need-orientation-of-requires
 orientation-of-requires c κs = search rules
@@ -53,10 +53,10 @@ ends-requires-4 : tie.Need-ends-requires-4
 ends-requires-4 c κs = search rules
 
 returns-3 : tie.Need-returns-3
-returns-3 c = c.ends3.ensures ∙ ap leaves c.before.with-edit.ensures ∙ when-given _ _ _ c.before.before.before.before.before.before.before.before.before.is_usable.ensures c.before.before.before.before.before.before.before.before.if1.false c.before.before.before.before.before.before.if2.false _ _ c.before.before.before.before.before.orientation-of.ensures c.before.before.before.orientation.given.1
+returns-3 c = c.ends3.ensures ∙ ap leaves c.before.with-edit.ensures ∙ when-given _ _ _ c.before.before.before.before.before.before.before.before.before.is-usable.ensures c.before.before.before.before.before.before.before.before.if1.false c.before.before.before.before.before.before.if2.false _ _ c.before.before.before.before.before.orientation-of.ensures c.before.before.before.orientation.given.1
 
 returns-4 : tie.Need-returns-4
-returns-4 c = c.ends4.ensures ∙ when-given _ _ _ c.before.before.before.before.before.before.before.is_usable.ensures c.before.before.before.before.before.before.if1.false c.before.before.before.before.if2.false _ _ c.before.before.before.orientation-of.ensures c.before.enum_told.given.1
+returns-4 c = c.ends4.ensures ∙ when-given _ _ _ c.before.before.before.before.before.before.before.is-usable.ensures c.before.before.before.before.before.before.if1.false c.before.before.before.before.if2.false _ _ c.before.before.before.orientation-of.ensures c.before.enum_told.given.1
 
 pub orient-spec : {M : Type 1} → statement M
 orient-spec =

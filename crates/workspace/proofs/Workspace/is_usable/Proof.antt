@@ -26,7 +26,7 @@ is-usable-requires : tie.Need-is-usable-requires
 is-usable-requires c κs = search rules
 
 returns-2 : tie.Need-returns-2
-returns-2 c = counted c.before.before.before.before.args.self _ c.before.before.before.is-counted.ensures c.before.before.if1.false _ c.is_usable.ensures
+returns-2 c = counted c.before.before.before.before.args.self _ c.before.before.before.is-counted.ensures c.before.before.if1.false _ c.is-usable.ensures
 
 pub is-usable-spec : {M : Type 1} → statement M
 is-usable-spec = tie.close (tie.spec is-counted-requires returns is-usable-requires returns-2)

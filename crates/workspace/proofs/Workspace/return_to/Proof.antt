@@ -13,7 +13,7 @@ ends-requires : tie.Need-ends-requires
 ends-requires c κs = search rules
 
 returns : tie.Need-returns
-returns c = c.ends.ensures ∙ return_empty _ _ c.before.before.is_usable.ensures _ c.before.if1.true
+returns c = c.ends.ensures ∙ return_empty _ _ c.before.before.is-usable.ensures _ c.before.if1.true
 
 is-bad-name-requires : tie.Need-is-bad-name-requires
 is-bad-name-requires c κs = search rules
@@ -22,25 +22,25 @@ ends-requires-2 : tie.Need-ends-requires-2
 ends-requires-2 c κs = search rules
 
 returns-2 : tie.Need-returns-2
-returns-2 c = c.ends2.ensures ∙ return_bad _ _ c.before.before.before.before.is_usable.ensures _ c.before.before.before.if1.false _ c.before.before.is-bad-name.ensures c.before.if2.true
+returns-2 c = c.ends2.ensures ∙ return_bad _ _ c.before.before.before.before.is-usable.ensures _ c.before.before.before.if1.false _ c.before.before.is-bad-name.ensures c.before.if2.true
 
 place-of-requires : tie.Need-place-of-requires
-place-of-requires c κs = counts c.before.before.before.before.before.args.self _ c.before.before.before.is_usable.ensures c.before.before.if1.false
+place-of-requires c κs = counts c.before.before.before.before.before.args.self _ c.before.before.before.is-usable.ensures c.before.before.if1.false
 
 ends-requires-3 : tie.Need-ends-requires-3
 ends-requires-3 c κs = search rules
 
 returns-3 : tie.Need-returns-3
-returns-3 c = c.ends3.ensures ∙ return_none _ _ c.before.before.before.before.before.before.before.is_usable.ensures _ c.before.before.before.before.before.before.if1.false _ c.before.before.before.before.before.is-bad-name.ensures c.before.before.before.before.if2.false _ c.before.before.before.place_of.ensures c.before.if3.true
+returns-3 c = c.ends3.ensures ∙ return_none _ _ c.before.before.before.before.before.before.before.is-usable.ensures _ c.before.before.before.before.before.before.if1.false _ c.before.before.before.before.before.is-bad-name.ensures c.before.before.before.before.if2.false _ c.before.before.before.place_of.ensures c.before.if3.true
 
 return-at-requires : tie.Need-return-at-requires
-return-at-requires c κs = omega (arith, counts c.before.before.before.before.before.before.before.before.args.self _ c.before.before.before.before.before.before.is_usable.ensures c.before.before.before.before.before.if1.false, c.if3.false)
+return-at-requires c κs = omega (arith, counts c.before.before.before.before.before.before.before.before.args.self _ c.before.before.before.before.before.before.is-usable.ensures c.before.before.before.before.before.if1.false, c.if3.false)
 
 ends-requires-4 : tie.Need-ends-requires-4
 ends-requires-4 c κs = search rules
 
 returns-4 : tie.Need-returns-4
-returns-4 c = c.ends4.ensures ∙ return_done _ _ c.before.before.before.before.before.before.before.before.is_usable.ensures _ c.before.before.before.before.before.before.before.if1.false _ c.before.before.before.before.before.before.is-bad-name.ensures c.before.before.before.before.before.if2.false _ c.before.before.before.before.place_of.ensures c.before.before.if3.false _ c.before.return-at.ensures
+returns-4 c = c.ends4.ensures ∙ return_done _ _ c.before.before.before.before.before.before.before.before.is-usable.ensures _ c.before.before.before.before.before.before.before.if1.false _ c.before.before.before.before.before.before.is-bad-name.ensures c.before.before.before.before.before.if2.false _ c.before.before.before.before.place_of.ensures c.before.before.if3.false _ c.before.return-at.ensures
 
 pub return-to-spec : {M : Type 1} → statement M
 return-to-spec =

@@ -1,4 +1,0 @@
-pub mod Columns
-pub mod Stores
-pub mod Lines
-pub mod Rows

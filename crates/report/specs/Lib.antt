@@ -1,4 +1,0 @@
-pub mod Columns
-pub mod Reader
-pub mod Report
-pub mod Laws
