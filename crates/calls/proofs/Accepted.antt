@@ -15,8 +15,8 @@ use Rattle.numbers.specs.declared.io.ByteOrder.TheVariants.{Big}
 use Rattle.reading.specs.Outcome.{Outcome, refused, accepted}
 use Rattle.reading.specs.declared.geometry.Size.{Size}
 use Rattle.laws.proofs.Tests.{by_cond, both}
-use Rattle.hex.specs.Hex.{sum, checks}
-use Rattle.hex.specs.Laws.{AreBytes}
+use Rattle.hex_lines.specs.Hex.{sum, checks}
+use Rattle.hex_lines.specs.Laws.{AreBytes}
 use Rattle.calls.specs.Format.{LineCall, line_load, line_back, line_list, of_length, u32_at, sides_at, sides_agree, optional, has_raw, has_picture, flags, model_length, well_formed_load, load_call, cut_call, fit_call, contents_call, orient_call, by_code, call_of, model_part, block_part, contents_part, model_given, block_given}
 use Rattle.calls.specs.Laws.{four_bytes, size_bytes, is_given, flag_byte, sides_of, body, check_of, checked, Number, SizeNumbers, Encodable, Encodes, EncodedOrMalformed, is_malformed, is_encoded, ReadIsEncoded}
 use Rattle.calls.proofs.Encoded.{sum_snoc}

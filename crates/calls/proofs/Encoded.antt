@@ -16,8 +16,8 @@ use Rattle.reading.specs.Outcome.{Outcome, accepted}
 use Rattle.reading.specs.declared.geometry.Size.{Size}
 use Rattle.reading.specs.declared.geometry.OptionalSize.{OptionalSize}
 use Rattle.reading.specs.declared.geometry.OptionalSize.TheVariants.{Missing, Given}
-use Rattle.hex.specs.Hex.{sum, checks}
-use Rattle.hex.specs.Laws.{AreBytes}
+use Rattle.hex_lines.specs.Hex.{sum, checks}
+use Rattle.hex_lines.specs.Laws.{AreBytes}
 use Rattle.calls.specs.Format.{LineCall, line_load, line_cut, line_back, line_list, line_fit, line_contents, line_orient, of_length, sides_at, flags, model_length, sides_agree, optional, well_formed_load, load_call, orient_call, by_code, call_of, model_part, block_part, contents_part}
 use Rattle.calls.specs.Laws.{four_bytes, size_bytes, is_given, flag_byte, sides_of, body, check_of, checked, encoded, Number, SizeNumbers, Encodable, ReadBack, EncodedIsRead, EncodedIsBytes}
 use Rattle.calls.proofs.Laws as laws

@@ -14,7 +14,7 @@ use Rattle.reading.specs.Outcome.{Outcome, refused, accepted}
 use Rattle.reading.specs.declared.geometry.Size.{Size}
 use Rattle.reading.specs.declared.geometry.OptionalSize.{OptionalSize}
 use Rattle.reading.specs.declared.geometry.OptionalSize.TheVariants.{Missing, Given}
-use Rattle.hex.specs.Hex.{checks}
+use Rattle.hex_lines.specs.Hex.{checks}
 use Rattle.calls.specs.Format.{LineCall, line_load, line_cut, line_fit, line_contents, line_orient, u32_at, sides_at, sides_agree, optional, well_formed_load, load_call, of_length, cut_call, fit_call, contents_call, orient_call, by_code, call_of, model_part, block_part, contents_part}
 
 -- ---- numbers and sizes

@@ -7,7 +7,7 @@ use Rattle.reading.specs.Outcome.{Outcome, refused, accepted}
 use Rattle.reading.specs.declared.geometry.Size.{Size}
 use Rattle.reading.specs.declared.geometry.OptionalSize.{OptionalSize}
 use Rattle.reading.specs.declared.geometry.OptionalSize.TheVariants.{Missing, Given}
-use Rattle.hex.specs.Hex.{checks}
+use Rattle.hex_lines.specs.Hex.{checks}
 use Rattle.calls.specs.declared.Call.{Call}
 use Rattle.calls.specs.declared.Call.TheVariants.{Malformed, Load, Cut, Back, ListPoints, Fit, Contents, Orient}
 

@@ -5,8 +5,8 @@ use Rattle.reading.specs.Outcome.{Outcome, refused, accepted}
 use Rattle.reading.specs.declared.geometry.Size.{Size}
 use Rattle.reading.specs.declared.geometry.OptionalSize.{OptionalSize}
 use Rattle.reading.specs.declared.geometry.OptionalSize.TheVariants.{Missing, Given}
-use Rattle.hex.specs.Hex.{sum}
-use Rattle.hex.specs.Laws.{AreBytes}
+use Rattle.hex_lines.specs.Hex.{sum}
+use Rattle.hex_lines.specs.Laws.{AreBytes}
 use Rattle.calls.specs.Format.{LineCall, line_load, line_cut, line_back, line_list, line_fit, line_contents, line_orient, call_of, model_given, block_given}
 
 -- ---- a call's bytes

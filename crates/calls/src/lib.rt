@@ -1,13 +1,15 @@
 // The call that the bytes of a line spell, and the parts of the bytes that it is given.
+#![tactic(auto)]
+
 ghost use Rattle.std.specs.Prelude.{◌≡◌, ◌-◌, ◌<◌};
 ghost use Rattle.calls.specs.Format.{call_means, u32_at, sides_at, sides_agree, optional, model_length, well_formed_load, load_call, of_length, cut_call, fit_call, contents_call, orient_call, by_code, call_of, model_part, block_part, contents_part};
 
-use hex::is_checked;
+use hex_lines::is_checked;
 use numbers::io::{ByteOrder, head, tail, u8_at, u32_of};
 use reading::geometry::{OptionalSize, Size};
 
 // How a line's bytes read; what a load or contents is given besides stands in the bytes, see model_part, block_part, contents_part.
-#[derive(Drop)]
+#[derive(Clone, Copy)]
 pub enum Call {
     Malformed,
     Load {

@@ -5,8 +5,9 @@ use Prim.Native.Nat.{ℕ, zero, suc, ◌+◌, ◌-◌, ◌<◌, ◌≤◌}
 use mathlib.Core.Path.{◌≡◌, refl, sym, ap, ◌∙◌}
 use mathlib.Core.Bool.{Bool, true, false, cond, not}
 use mathlib.Core.List.{List, [], ◌++◌, append-nil}
-use lib.IntN.{ℤ, pos, negsuc}
+use lib.IntN.{ℤ, pos, negsuc, nat_abs}
 use lib.ListN.{length, take, drop, length-drop}
+use Rattle.std.proofs.lemmas.List.{take_all}
 use lib.Seq.{sets, sets-eq, take_at, take-add, take-length}
 use lib.Signed.{lt_z}
 use mir.Syntax.{w64}
@@ -15,7 +16,6 @@ use mir.ValLaws.{to_z-of_z}
 use native.Mathlib.Omega.{arith}
 use native.Mathlib.Nat.{zero-add}
 use borrow.Author.Tests.{not-false, ltb-true}
-use Rattle.io.specs.Counts.{clamp_len}
 use Rattle.text.specs.Put.{Put}
 use Rattle.text.proofs.Laws.{put_same, put_room}
 use Rattle.sheet.specs.declared.Sheet.{Sheet}
@@ -23,7 +23,7 @@ use Rattle.sheet.specs.Sheet.{fresh_sheet}
 use Rattle.session.specs.Answering.{most_text}
 use Rattle.stream.specs.declared.Fed.{Fed}
 use Rattle.stream.specs.Stream.{last_text, Taken, Feeds}
-use Rattle.stream.proofs.Laws.{taken_none, taken_join, rest_all, take_least, progress}
+use Rattle.stream.proofs.Laws.{taken_none, taken_join, rest_all, progress}
 use Rattle.focusdesk.specs.declared.After.{After}
 use Rattle.focusdesk.specs.declared.Once.{Once}
 use Rattle.focusdesk.specs.Served.{ServesOnce, Serves, came, Interrupts, after_read, ReadsOnce}
@@ -102,16 +102,6 @@ module _ {s : Sheet} {l₀ h l : List ℕ} {r : Once} (input : List ℕ) (i : �
       record { used = i; taken = p.taken; used_part = p.used_part; used_some = λ z. f; used_all = λ z. false_true z; more_if_sent = refl }
 
 -- ---- a read, which answered `got`. The program tests its bits, `of_z w64 got`
-failed_read : (got : ℤ) (b : Bool) → lt_z got (pos 0) ≡ true → Interrupts got b
-unfolding Interrupts
-failed_read (negsuc k) b h = tt
-failed_read (pos k) b h = absurd (omega (arith, ltb-true k 0 h))
-
-other_read : (got : ℤ) → lt_z got (pos 0) ≡ false → Interrupts got false
-unfolding Interrupts
-other_read (negsuc k) h = tt
-other_read (pos k) h = refl
-
 module _ (b : Bool) (s : Sheet) (l : List ℕ) (n : ℕ) (input o : List ℕ) where
   failed : (got : ℤ) → lt_z got (pos 0) ≡ true → ReadsOnce got b s l n input o l o (after_read s n b)
   unfolding ReadsOnce
@@ -126,35 +116,65 @@ module _ (b : Bool) (s : Sheet) (l : List ℕ) (n : ℕ) (input o : List ℕ) wh
     ended (pos zero) h z e = (refl, refl, e)
     ended (pos (suc k)) h z e = absurd (omega (arith, z))
 
-    some : (l₁ : List ℕ) (r : After) (got : ℤ) (k : ℕ) → lt_z got (pos 0) ≡ false → (of_z w64 got ≡ 0 → ⊥) → k ≡ clamp_len got (length input)
+    some : (l₁ : List ℕ) (r : After) (got : ℤ) (k : ℕ) → lt_z got (pos 0) ≡ false → (of_z w64 got ≡ 0 → ⊥) → take k input ≡ came got input
         → Serves s l (take n l) (take k input) l₁ r → ReadsOnce got b s l n input o l₁ o₁ r
-    unfolding ReadsOnce came
+    unfolding ReadsOnce
     some l₁ r (negsuc j) k h z e p = false_true (sym h)
     some l₁ r (pos zero) k h z e p = absurd (z refl)
-    some l₁ r (pos (suc j)) k h z e p = rw (take_least input (suc j) k e) p
+    some l₁ r (pos (suc j)) k h z e p = rw e at p
 
-module _ (got : ℤ) (f : SFits w64 got) where
-  pub interrupted_some : (b : Bool) → lt_z (to_z w64 (of_z w64 got)) (pos 0) ≡ true → Interrupts got b
-  interrupted_some b h = failed_read got b (rw (to_z-of_z w64 got f) at h)
+module _ (got : ℤ) (f : SFits w64 got) (b : Bool) (s : Sheet) (l : List ℕ) (n : ℕ) (input o : List ℕ) where
+  pub reads_failed : lt_z (to_z w64 (of_z w64 got)) (pos 0) ≡ true → ReadsOnce got b s l n input o l o (after_read s n b)
+  reads_failed h = failed b s l n input o got (rw (to_z-of_z w64 got f) at h)
 
-  pub interrupted_none : lt_z (to_z w64 (of_z w64 got)) (pos 0) ≡ false → Interrupts got false
-  interrupted_none h = other_read got (rw (to_z-of_z w64 got f) at h)
+  -- the input has ended
+  pub reads_end : (o₁ : List ℕ) → lt_z (to_z w64 (of_z w64 got)) (pos 0) ≡ false → of_z w64 got ≡ 0
+      → o₁ ≡ sets o 0 (last_text s (take n l)) → ReadsOnce got b s l n input o l o₁ (after_read s 0 false)
+  reads_end o₁ h = ended b s l n input o o₁ got (rw (to_z-of_z w64 got f) at h)
 
-  module _ (b : Bool) (s : Sheet) (l : List ℕ) (n : ℕ) (input o : List ℕ) where
-    pub reads_failed : lt_z (to_z w64 (of_z w64 got)) (pos 0) ≡ true → ReadsOnce got b s l n input o l o (after_read s n b)
-    reads_failed h = failed b s l n input o got (rw (to_z-of_z w64 got f) at h)
+  -- bytes came: as many of the buffer are served as the read answered
+  pub reads_some : (l₁ o₁ : List ℕ) (r : After) (k : ℕ) → lt_z (to_z w64 (of_z w64 got)) (pos 0) ≡ false → (of_z w64 got ≡ 0 → ⊥)
+      → take k input ≡ came (to_z w64 (of_z w64 got)) input → Serves s l (take n l) (take k input) l₁ r
+      → ReadsOnce got b s l n input o l₁ o₁ r
+  reads_some l₁ o₁ r k h z e =
+      some b s l n input o o₁ l₁ r got k (rw (to_z-of_z w64 got f) at h) z (rw (to_z-of_z w64 got f) at e)
 
-    -- the input has ended
-    pub reads_end : (o₁ : List ℕ) → lt_z (to_z w64 (of_z w64 got)) (pos 0) ≡ false → of_z w64 got ≡ 0
-        → o₁ ≡ sets o 0 (last_text s (take n l)) → ReadsOnce got b s l n input o l o₁ (after_read s 0 false)
-    reads_end o₁ h = ended b s l n input o o₁ got (rw (to_z-of_z w64 got f) at h)
+-- ---- what std answered for a read: a count, or an error
+pub interrupted_ok : (n : ℕ) → Interrupts (pos n) false
+unfolding Interrupts
+interrupted_ok n = refl
 
-    -- bytes came: as many of the buffer are served as the read answered
-    pub reads_some : (l₁ o₁ : List ℕ) (r : After) (k : ℕ) → lt_z (to_z w64 (of_z w64 got)) (pos 0) ≡ false → (of_z w64 got ≡ 0 → ⊥)
-        → k ≡ clamp_len (to_z w64 (of_z w64 got)) (length input) → Serves s l (take n l) (take k input) l₁ r
-        → ReadsOnce got b s l n input o l₁ o₁ r
-    reads_some l₁ o₁ r k h z e =
-        some b s l n input o o₁ l₁ r got k (rw (to_z-of_z w64 got f) at h) z (rw (to_z-of_z w64 got f) at e)
+pub interrupted_err : (k : ℕ) (b : Bool) → Interrupts (negsuc k) b
+unfolding Interrupts
+interrupted_err k b = tt
+
+-- ---- the bytes that a read put at the start of a buffer
+came_none : (got : ℤ) (input : List ℕ) → lt_z got (pos 0) ≡ true → [] ≡ came got input
+unfolding came
+came_none (negsuc k) input h = refl
+came_none (pos k) input h = absurd (omega (arith, ltb-true k 0 h))
+
+came_part : (got : ℤ) (input : List ℕ) → lt_z got (pos 0) ≡ false → take (nat_abs got) input ≡ came got input
+unfolding came
+came_part (negsuc k) input h = false_true (sym h)
+came_part (pos k) input h = refl
+
+came_all : (got : ℤ) (input : List ℕ) → lt_z got (pos 0) ≡ false → length input ≤ nat_abs got → input ≡ came got input
+unfolding came
+came_all (negsuc k) input h f = false_true (sym h)
+came_all (pos k) input h f = sym (take_all k input f)
+
+module _ (got : ℤ) (f : SFits w64 got) (input : List ℕ) where
+  pub counted_none : lt_z (to_z w64 (of_z w64 got)) (pos 0) ≡ true → [] ≡ came got input
+  counted_none h = came_none got input (rw (to_z-of_z w64 got f) at h)
+
+  pub counted_part : lt_z (to_z w64 (of_z w64 got)) (pos 0) ≡ false → take (nat_abs (to_z w64 (of_z w64 got))) input ≡ came got input
+  counted_part h = rw (to_z-of_z w64 got f) (came_part got input (rw (to_z-of_z w64 got f) at h))
+
+  pub counted_all : lt_z (to_z w64 (of_z w64 got)) (pos 0) ≡ false → length input ≤ nat_abs (to_z w64 (of_z w64 got))
+      → take (length input) input ≡ came got input
+  counted_all h l =
+      take-length input ∙ came_all got input (rw (to_z-of_z w64 got f) at h) (rw (to_z-of_z w64 got f) at l)
 
 -- ---- all reads: before the first one
 pub running_none : (s : Sheet) (l : List ℕ) → s ≡ fresh_sheet → Taken fresh_sheet l [] [] s l 0

@@ -1,5 +1,5 @@
 -- What the program makes of a read: what serving the bytes leaves, and what each other answer of a read leaves.
-use Rattle.std.specs.Prelude.{ℕ, zero, suc, ◌<◌, ◌≤◌, Bool, true, false, List, [], ◌≡◌, ℤ, pos, negsuc, length, take}
+use Rattle.std.specs.Prelude.{ℕ, zero, suc, ◌<◌, ◌≤◌, Bool, true, false, List, [], ◌≡◌, ℤ, pos, negsuc, length, take, Result, Ok, Err}
 use Rattle.std.proofs.lemmas.List.Edits.{sets}
 use Rattle.sheet.specs.declared.Sheet.{Sheet}
 use Rattle.stream.specs.Stream.{piece_text, last_text, Taken}
@@ -28,6 +28,11 @@ pub record Serves (s : Sheet) (line₀ h input line : List ℕ) (r : After) : Ty
 unfoldable pub came : ℤ → List ℕ → List ℕ
 came (pos n) input = take n input
 came (negsuc k) input = []
+
+-- what a read answered, as a number: how many bytes came, or a negative one where it failed
+abbrev pub got_of : {E : Type 0} → Result ℕ E → ℤ
+got_of (Ok n) = pos n
+got_of (Err e) = negsuc 0
 
 -- only a read that failed was interrupted by a signal
 unfoldable pub Interrupts : ℤ → Bool → Type 0

@@ -1,5 +1,7 @@
 // A library for C and Rust: one photograph's focus points, a whole script of call lines, and a note's contents. What is exported takes
 // numbers and slices (a pointer and a length each) and asks nothing of what they hold.
+#![tactic(auto)]
+
 ghost use Rattle.std.specs.Prelude.{◌≡◌, ◌∷◌, ◌+◌, ◌*◌, ◌≤◌, length};
 ghost use Rattle.reading.specs.Contents.{contents_of};
 ghost use Rattle.placing.specs.Focus.{focus_of};
@@ -19,6 +21,7 @@ use script::Answered;
 use sheet::listing::ListHead;
 
 // A size that is given where the first number is not 0.
+#[tactic(auto, unfolding(crate::specs::Photograph::given_size))]
 fn given_size(given: u32, width: u32, height: u32) -> OptionalSize
     ensures { result ≡ given_size given width height }
 {
@@ -72,8 +75,7 @@ fn put_listing(focus: FocusPoints, out: &mut [u32]) -> u32
 }
 
 // One photograph: 01's number where there are no points, 13 where the buffer is too short for them, and 0 with the listing written.
-#[unsafe(no_mangle)]
-pub extern "C" fn focuspoints_photograph(
+pub fn focuspoints_photograph(
     block: &[u8],
     raw_given: u32,
     raw_width: u32,
@@ -98,8 +100,7 @@ pub extern "C" fn focuspoints_photograph(
 
 // A whole script: the length of the text that its lines are answered, written at the buffer's front; the largest number where it has
 // no room.
-#[unsafe(no_mangle)]
-pub extern "C" fn focuspoints_script(script: &[u8], out: &mut [u8]) -> usize
+pub fn focuspoints_script(script: &[u8], out: &mut [u8]) -> usize
     ensures { (result ≡ script_length (script_text script.now) out.old) × (out.new ≡ buffer_with (script_text script.now) out.old) }
 {
     match script::answer(script, out) {
@@ -133,8 +134,7 @@ fn put_tags(count: usize, tags: [u16; 4], out: &mut [u32]) -> u32
 
 // Which of the four tags a block has, in the order of their first kept entries: 1 where it cannot be read, 13 where the buffer is too
 // short, and 0 with their number and the tags written.
-#[unsafe(no_mangle)]
-pub extern "C" fn focuspoints_contents(block: &[u8], out: &mut [u32]) -> u32
+pub fn focuspoints_contents(block: &[u8], out: &mut [u32]) -> u32
     ensures { ContentsTold (contents_of block.now) out.old result out.new }
 {
     let contents = reading::nikon::contents(block);

@@ -22,7 +22,7 @@ use Rattle.journal.specs.Claim.{after}
 use Rattle.journal.specs.WorkspaceJournal.{NamedEdits, WorkspaceJournal, with, empty_in, kept_under, keep_under, WorkspaceCall, on_sheet, keep, return, names_after, journal_sheet, keep_refusal, journal_keep, returned, journal_return, journal_step_in, journal_after_in}
 use Rattle.journal.specs.WorkspaceCalls.{sheet_step_in, workspace_step, run_workspace}
 use Rattle.journal.specs.WorkspaceClaim.{SheetAlone, SheetsOwnCalls, AsSomeSheet, PrimaryIsListedIn, ListsExactlyIn}
-use Rattle.journal.proofs.Answers.{answers, after-append}
+use Rattle.journal.proofs.Answers.{answers, after_append}
 use Rattle.journal.proofs.Shown.{lists_exactly, primary_is_listed}
 use Rattle.journal.proofs.WorkspaceAgrees.{answers_in, after_snoc}
 
@@ -73,7 +73,7 @@ step_reached : (j : Journal) (c : Call) → Reached j → Reached (journal_step 
 unfolding journal_after
 step_reached j c r = record {
   by_calls = r.by_calls ++ c ∷ [];
-  reaches = after-append empty r.by_calls (c ∷ []) ∙ ap (λ (k : Journal). (journal_step k c).1) r.reaches;
+  reaches = after_append empty r.by_calls (c ∷ []) ∙ ap (λ (k : Journal). (journal_step k c).1) r.reaches;
 }
 
 -- the journal of a load with any of the kept edits

@@ -1,6 +1,6 @@
 -- Fits with a blank side after any list of calls. The idea: 12 and 19 are told by the worked box, by the cases of the two tests; what the
 -- tests say of a worked box, in numbers, are the laws of `shape`. Assumes nothing.
-use Prim.Native.Nat.{ℕ, ◌*◌, ◌≤◌}
+use Prim.Native.Nat.{ℕ, ◌*◌}
 use mathlib.Core.Bool.{Bool, true, false, cond, false≢true}
 use mathlib.Core.List.{List}
 use mathlib.Core.Logic.{◌↔◌, ⊎_elim}

@@ -1,6 +1,6 @@
 -- The laws of specs/Laws.antt but those of orientations. Two rows that leave the same frame, and carry every point that fits the load's
 -- frame alike, list alike; so do two rows that go on alike from the present frame. Assumes nothing.
-use Prim.Native.Nat.{ℕ, zero, suc, ◌+◌, ◌-◌, ◌<◌}
+use Prim.Native.Nat.{ℕ, zero, suc, ◌<◌}
 use mathlib.Core.Bool.{true, false≢true}
 use mathlib.Core.List.{List, [], ◌∷◌, ◌++◌, append_assoc, append-nil}
 use mathlib.Core.Option.{Option, none, some}
@@ -21,7 +21,7 @@ use Rattle.journal.specs.Calls.{Call, change, back, list, fit, journal_step, jou
 use Rattle.journal.specs.Claim.{after}
 use Rattle.journal.specs.Laws.{ListAlike, whole_cut, WholeCut, BackUndoes, moved_all, EditMoves, StaysUnlisted}
 use Rattle.journal.proofs.Carry.{frame_append, carried_append, carried_snoc, carried_none, but_last}
-use Rattle.journal.proofs.Answers.{answers, answered, after-append}
+use Rattle.journal.proofs.Answers.{answers, answered, after_append}
 use Rattle.journal.proofs.Holds.{Right, right, FitsIf, carried_fits, fits_at}
 use Rattle.journal.proofs.Refusals.{good_of}
 
@@ -154,7 +154,7 @@ whole_cut_lem calls f row e l =
     let r = right calls f row e in
     let k = taken f row c (whole_taken f row r l) in
     let n : after (calls ++ whole_cut g ∷ []) ≡ holds f (row ++ c ∷ []) =
-    after-append empty calls (whole_cut g ∷ []) ∙ rw e (ap (λ (r : Answer × Journal). r.1) k) in (
+    after_append empty calls (whole_cut g ∷ []) ∙ rw e (ap (λ (r : Answer × Journal). r.1) k) in (
       answered calls (holds f row) (whole_cut g) e ∙ ap (λ (r : Answer × Journal). r.0) k,
       alike (calls ++ whole_cut g ∷ []) calls f (row ++ c ∷ []) row n e r.sound
           (frame_append f.frame row (c ∷ []))
@@ -185,5 +185,5 @@ undone (holds f row) c e =
 pub back_undoes : BackUndoes
 back_undoes calls c e d =
     let a : after (calls ++ change c ∷ back ∷ []) ≡ after calls =
-    after-append empty calls (change c ∷ back ∷ []) ∙ undone (after calls) c (sym (answers calls (change c)) ∙ e) in
+    after_append empty calls (change c ∷ back ∷ []) ∙ undone (after calls) c (sym (answers calls (change c)) ∙ e) in
     answered (calls ++ change c ∷ back ∷ []) (after calls) d a ∙ sym (answers calls d)

@@ -26,7 +26,7 @@ use Rattle.journal.specs.Claim.{after}
 use Rattle.journal.specs.Laws.{ListAlike, orientation_change, orientation_call, AsOneCall, NothingTogether, FourTurnCalls, TwoMirrorCalls, SixtyFourStand}
 use Rattle.journal.proofs.Carry.{frame_append}
 use Rattle.journal.proofs.Placed.{oriented_is}
-use Rattle.journal.proofs.Answers.{answered, after-append}
+use Rattle.journal.proofs.Answers.{answered, after_append}
 use Rattle.journal.proofs.Holds.{right}
 use Rattle.journal.proofs.Laws.{CarryAlike, alike, carry_alike, taken}
 
@@ -93,7 +93,7 @@ all_taken f (o ∷ os) row r =
 
 after_orients : (calls : List Call) (f : Focus) (row : List Change) (os : List Orientation) → after calls ≡ holds f row
     → length row + length os ≤ 64 → after (calls ++ map orientation_call os) ≡ holds f (row ++ map orientation_change os)
-after_orients calls f row os e r = after-append empty calls (map orientation_call os) ∙ rw e (all_taken f os row r)
+after_orients calls f row os e r = after_append empty calls (map orientation_call os) ∙ rw e (all_taken f os row r)
 
 -- two lists with one product, as calls
 list_alike : (calls : List Call) (f : Focus) (row : List Change) (os others : List Orientation) → after calls ≡ holds f row
@@ -129,7 +129,7 @@ still_full : (calls : List Call) (f : Focus) (row : List Change) (c : Change) �
     → after (calls ++ change c ∷ []) ≡ holds f row
 unfolding journal_after
 still_full calls f row c e l =
-    after-append empty calls (change c ∷ [])
+    after_append empty calls (change c ∷ [])
     ∙ ap (λ (j : Journal). journal_after j (change c ∷ [])) e
     ∙ kept_full f row c l
 

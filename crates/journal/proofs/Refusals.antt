@@ -18,7 +18,7 @@ use Rattle.placing.specs.Fit.{has_zero_side}
 use Rattle.laws.proofs.Tests.{neither, or_first, or_second}
 use Rattle.placing.specs.Focus.{focus_of}
 use Rattle.placing.specs.Load.{Focus}
-use Rattle.shape.specs.Shape.{sameShape}
+use Rattle.shape.specs.Shape.{same_shape}
 use Rattle.shape.proofs.Shapes.{same_told, same_of, other_told, other_of}
 use Rattle.journal.specs.Journal.{Change, cut, orient, Journal, empty, holds, still_listed, present_frame, listing, primary_after, fit_box, fitted, Answer, no, ok, ended, is_bad_cut, is_outside, own_refusal, change_refusal, back_refusal, journal_load, journal_change, journal_back, head, numbers, written, journal_list, answer_in_box, journal_fit}
 use Rattle.journal.specs.Calls.{Call, load, change, back, list, fit, lent, is_load, journal_step, journal_after}
@@ -213,7 +213,7 @@ written_told f row g ps b c n r e = by (ltb (length b) (6 * length ps)) refl e
 fit_told : (f : Focus) (row : List Change) (asked : Size) (b : List ℕ) (n : ℕ)
     → (journal_fit (holds f row) asked b).outcome ≡ refused n → Refuses (holds f row) (fit asked b) n
 unfolding journal_fit answer_in_box
-fit_told f row asked b n e = by (has_zero_side box) (sameShape g box) refl refl e
+fit_told f row asked b n e = by (has_zero_side box) (same_shape g box) refl refl e
   where
     g : Size
     g = present_frame f row
@@ -221,14 +221,14 @@ fit_told f row asked b n e = by (has_zero_side box) (sameShape g box) refl refl 
     box : Size
     box = fit_box f row asked
 
-    by : (z t : Bool) → has_zero_side box ≡ z → sameShape g box ≡ t
+    by : (z t : Bool) → has_zero_side box ≡ z → same_shape g box ≡ t
         → (cond z (no 12 b) (cond t (written f row box (fitted f row box) b) (no 19 b))).outcome ≡ refused n
         → Refuses (holds f row) (fit asked b) n
     by true t p q y = same_number (zero_box {f = f} {box = asked} p) y
     by false false p q y = same_number (shapes_differ {f = f} {box = asked} p (other_told g box q)) y
     by false true p q y =
         written_told f row box (fitted f row box) b (fit asked b) n
-        (λ l. short_fit {f = f} {box = asked} (record { no_zero_side = p; same-shape = same_told g box q }) (omega (arith, fitted_length f row box))) y
+        (λ l. short_fit {f = f} {box = asked} (record { no_zero_side = p; same_shape = same_told g box q }) (omega (arith, fitted_length f row box))) y
 
 pub told : (j : Journal) (c : Call) (n : ℕ) → (journal_step j c).0.outcome ≡ refused n → Refuses j c n
 unfolding journal_step journal_change journal_back journal_list
@@ -259,7 +259,7 @@ says (zero_box z) = rw z
 says (short {f = f} {standing = row} {buffer = b} l) = rw (lt-ltb (length b) (6 * length (listing f row)) l)
 says (shapes_differ {f = f} {standing = row} {box = box} z d) = rw (z, other_of (present_frame f row) (fit_box f row box) d)
 says (short_fit {f = f} {standing = row} {box = box} {buffer = b} g l) =
-    rw (g.no_zero_side, same_of (present_frame f row) (fit_box f row box) g.same-shape, fitted_length f row (fit_box f row box), lt-ltb (length b) (6 * length (listing f row)) l)
+    rw (g.no_zero_side, same_of (present_frame f row) (fit_box f row box) g.same_shape, fitted_length f row (fit_box f row box), lt-ltb (length b) (6 * length (listing f row)) l)
 
 pub refused_exactly : RefusedExactly
 refused_exactly calls c n = (

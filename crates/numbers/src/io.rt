@@ -4,14 +4,14 @@ ghost use Rattle.numbers.specs.Numbers.{joined, u16_of, u32_of, shorts_of};
 ghost use Rattle.numbers.specs.Bytes.{same};
 
 // The order of a number's bytes.
-#[derive(Drop)]
+#[derive(Clone, Copy)]
 pub enum ByteOrder {
     Little,
     Big,
 }
 
 // Two 16-bit numbers.
-#[derive(Drop)]
+#[derive(Clone, Copy)]
 pub struct Pair {
     pub first: u16,
     pub second: u16,

@@ -11,11 +11,11 @@ use Rattle.placing.specs.declared.named.Window.{Window}
 use Rattle.placing.specs.Fit.{by, same_size}
 use Rattle.placing.specs.Named.{whole, dx, medium, same_place, given_as, none_or, on_crop, uncropped, placed_frame}
 
-module _ (P : Outcome Window → Type 0) (on-whole : P (accepted whole)) (on-medium : P (accepted medium)) (on-dx : P (accepted dx))
-    (on-six : P (refused 6)) where
+module _ (P : Outcome Window → Type 0) (on_whole : P (accepted whole)) (on_medium : P (accepted medium)) (on_dx : P (accepted dx))
+    (on_six : P (refused 6)) where
   by_picture : (picture : OptionalSize) → P (accepted (uncropped picture))
   unfolding uncropped
-  by_picture picture = either (λ (w : Window). P (accepted w)) (given_as picture (by 4512 3008)) medium whole on-medium on-whole
+  by_picture picture = either (λ (w : Window). P (accepted w)) (given_as picture (by 4512 3008)) medium whole on_medium on_whole
 
   pub by_frame : (crop : Crop) (picture : OptionalSize) → P (placed_frame crop picture)
   unfolding placed_frame on_crop
@@ -23,4 +23,4 @@ module _ (P : Outcome Window → Type 0) (on-whole : P (accepted whole)) (on-med
   by_frame (Stated crop) picture =
       either P (same_size crop.cropped crop.original) (accepted (uncropped picture)) (on_crop crop picture) (by_picture picture)
       (either P (eqb crop.mode 2 && (same_place crop.origin dx.origin && none_or picture dx.frame)) (accepted dx) (refused 6)
-      on-dx on-six)
+      on_dx on_six)

@@ -2,7 +2,7 @@
 -- and stands in the fields. The idea: a refusal is no acceptance, on either side. Assumes nothing.
 use Prim.Native.Nat.{ℕ}
 use mathlib.Core.Bool.{false≢true}
-use mathlib.Core.List.{List, []}
+use mathlib.Core.List.{List}
 use mathlib.Core.Path.{◌≡◌, refl, sym, ap, ◌∙◌}
 use Rattle.reading.specs.Outcome.{Outcome, refused, accepted, is_accepted}
 use Rattle.placing.specs.declared.load.FocusAnswer.{FocusAnswer}

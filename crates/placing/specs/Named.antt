@@ -5,7 +5,7 @@ use Rattle.reading.specs.declared.geometry.Size.{Size}
 use Rattle.reading.specs.declared.geometry.Point.{Point}
 use Rattle.reading.specs.declared.geometry.OptionalSize.{OptionalSize}
 use Rattle.reading.specs.declared.geometry.OptionalSize.TheVariants.{Missing, Given}
-use Rattle.reading.specs.declared.focus.InFocus.TheVariants as in-focus
+use Rattle.reading.specs.declared.focus.InFocus.TheVariants as answers
 use Rattle.reading.specs.declared.focus.FocusAreaMode.{FocusAreaMode}
 use Rattle.reading.specs.declared.nikon.CropHiSpeed.{CropHiSpeed}
 use Rattle.reading.specs.declared.nikon.Crop.{Crop}
@@ -88,7 +88,7 @@ less_origin w p =
       number = p.number;
       center = record { x = p.center.x - w.origin.x; y = p.center.y - w.origin.y };
       size = p.size;
-      in_focus = in-focus.Unrecorded;
+      in_focus = answers.Unrecorded;
     }
 
 -- "that fit": a center before the origin is below 0 in the window, so off it

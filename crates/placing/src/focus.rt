@@ -8,7 +8,7 @@ use reading::focus::InFocus;
 use reading::geometry::{Point, Size};
 
 // A place where the camera focused. A recorded point has number 0, one without an area the size 0 by 0.
-#[derive(Drop)]
+#[derive(Clone, Copy)]
 pub struct FocusPoint {
     pub number: u32,
     pub center: Point,

@@ -1,6 +1,8 @@
 // From what reading tells of a note to a frame and focus points: one load.
 // Every public function is total: it asks nothing of its caller.
 // The modules carry the names of the source files that they port, but for load (of focus.rs), named and recorded (of nikon.rs).
+#![tactic(auto)]
+
 pub mod focus; // focus.rs: when a point fits a frame, and a point measured in another frame
 pub mod load; // focus.rs, FocusPoints: the points of one load in 39 places, or why there are none
 pub mod named; // nikon.rs: the points that a record names, placed from the table

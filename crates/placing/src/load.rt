@@ -9,14 +9,14 @@ use reading::focus::{FocusAreaMode, InFocus};
 use reading::geometry::{Point, Size};
 
 // Where points come from: the record's own position, or the table of the body's points.
-#[derive(Drop)]
+#[derive(Clone, Copy)]
 pub enum FocusOrigin {
     Recorded,
     Table,
 }
 
 // Why a load gives no points: 01's numbers 1 to 6, in this order.
-#[derive(Drop)]
+#[derive(Clone, Copy)]
 pub enum Refusal {
     Unreadable,
     NoRecord,
@@ -27,7 +27,7 @@ pub enum Refusal {
 }
 
 // How a load ends.
-#[derive(Drop)]
+#[derive(Clone, Copy)]
 pub enum FocusAnswer {
     Accepted,
     Refused(Refusal),
@@ -35,7 +35,7 @@ pub enum FocusAnswer {
 
 // The points of one load in their frame, of which the first `count` places hold one each and `primary` is the index of
 // the primary. Where the load is refused, every number is zero, the mode is none and the origin is Recorded.
-#[derive(Drop)]
+#[derive(Clone, Copy)]
 pub struct FocusPoints {
     pub answer: FocusAnswer,
     pub frame: Size,
@@ -47,7 +47,7 @@ pub struct FocusPoints {
 }
 
 // Points in the first `count` of 39 places.
-#[derive(Drop)]
+#[derive(Clone, Copy)]
 pub struct PointPlaces {
     pub points: [FocusPoint; 39],
     pub count: usize,

@@ -13,14 +13,14 @@ use reading::geometry::{OptionalSize, Point, Size};
 use reading::nikon::{Crop, CropHiSpeed};
 
 // A part of the table's frame: the frame that points are placed in, and where it starts.
-#[derive(Drop)]
+#[derive(Clone, Copy)]
 pub struct Window {
     pub frame: Size,
     pub origin: Point,
 }
 
 // The frame of the points placed from the table, if the crop is one whose window in the table's frame is known.
-#[derive(Drop)]
+#[derive(Clone, Copy)]
 pub enum PlacedFrame {
     Unconfirmed,
     Confirmed(Window),
@@ -134,6 +134,7 @@ fn marks(mask: u64, number: u32) -> bool
 }
 
 // Whether a record names a point: as the primary, or by its mask.
+#[tactic(auto, unfolding(crate::specs::Named::is_named))]
 fn is_named(number: u32, primary: u32, mask: u64) -> bool
     requires { (0 < number) × (number ≤ 39) }
     ensures { result ≡ is_named primary mask number }
@@ -142,7 +143,7 @@ fn is_named(number: u32, primary: u32, mask: u64) -> bool
 }
 
 // What becomes of a point of the table.
-#[derive(Drop)]
+#[derive(Clone, Copy)]
 enum Candidate {
     Out,
     In(FocusPoint),
@@ -234,7 +235,8 @@ pub fn placed_in(window: Window, primary: u32, mask: u64, area_mode: FocusAreaMo
     let points = listing.points;
     let count = listing.count;
     let index = index_of(points, count, primary);
-    if count <= index {
+    let is_unlisted = count <= index;
+    if is_unlisted {
         return crate::load::no_points(Refusal::NamesUnplaced);
     }
     let frame = window.frame;

@@ -18,7 +18,7 @@ use reading::note::NoteAnswer;
 
 // Where the points of a load are: nowhere, as it is refused; one recorded position in its frame; or the points that a
 // primary and a mask name in a window of the table's frame.
-#[derive(Drop)]
+#[derive(Clone, Copy)]
 enum Located {
     Refused(Refusal),
     Position {

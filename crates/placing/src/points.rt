@@ -5,7 +5,7 @@ ghost use Rattle.placing.specs.Points.{table_of, points};
 use reading::geometry::{Point, Size};
 
 // A point of the table: its number as the camera writes it, the center of its box and the box's size, in the body's full-size frame.
-#[derive(Drop)]
+#[derive(Clone, Copy)]
 pub struct FocusLayoutPoint {
     pub number: u32,
     pub center: Point,
@@ -13,7 +13,7 @@ pub struct FocusLayoutPoint {
 }
 
 // The table of a body's points, if it has one.
-#[derive(Drop)]
+#[derive(Clone, Copy)]
 pub enum PointTable {
     NoTable,
     NikonD600,

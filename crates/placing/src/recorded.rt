@@ -7,7 +7,7 @@ use reading::geometry::{OptionalSize, Point, Size};
 use reading::nikon::{Crop, CropArea, CropHiSpeed};
 
 // What a crop cut from the frame: both sides, only the width, only the height, or anything else.
-#[derive(Drop)]
+#[derive(Clone, Copy)]
 pub enum CutSides {
     Other,
     Both,
@@ -16,7 +16,7 @@ pub enum CutSides {
 }
 
 // A point in its frame, or a position that cannot be placed.
-#[derive(Drop)]
+#[derive(Clone, Copy)]
 pub enum Position {
     Unplaced,
     Placed { frame: Size, point: FocusPoint },

@@ -1,59 +1,57 @@
 // Prints what one load answers for each load of standard input. A load is 512 bytes: a byte of flags (1 raw size, 2 picture
 // size), the raw and the picture size as four 32-bit numbers, the model's length in a byte, the block's length in two, the
 // model, the block, and zeros. Numbers are big-endian. No contract can say what is printed: that is held to `stdout`.
+#![tactic(auto)]
+
 ghost use Rattle.std.specs.Prelude.{◌≡◌, length};
 
-use libc::{STDIN_FILENO, STDOUT_FILENO};
 use numbers::io::ByteOrder;
 use placing::focus::FocusPoint;
 use placing::load::{FocusAnswer, FocusPoints};
 use reading::geometry::{OptionalSize, Size};
+use std::io;
+use std::io::{ErrorKind, Read};
 
-fn text(s: &[u8]) {
-    io::write_all(STDOUT_FILENO, s);
+fn text(rt: &impl Print, s: &str) -> io::Result<()> {
+    rt.print(s)
 }
 
 // A word and a number in decimal.
-fn number(word: &[u8], n: u32) {
-    text(word);
-    io::print_decimal(STDOUT_FILENO, n as u64);
+fn number(rt: &impl Print, word: &str, n: u32) -> io::Result<()> {
+    print!(rt; "{word}{n}")
 }
 
-fn print_point(p: FocusPoint) {
+fn print_point(rt: &impl Print, p: FocusPoint) -> io::Result<()> {
     let center = p.center;
     let size = p.size;
     let in_focus = p.in_focus;
-    number(b" | ", p.number);
-    number(b" ", center.x);
-    number(b" ", center.y);
-    number(b" ", size.width);
-    number(b" ", size.height);
-    number(b" ", reading::focus::in_focus_number(in_focus));
+    number(rt, " | ", p.number)?;
+    number(rt, " ", center.x)?;
+    number(rt, " ", center.y)?;
+    number(rt, " ", size.width)?;
+    number(rt, " ", size.height)?;
+    number(rt, " ", reading::focus::in_focus_number(in_focus))
 }
 
-fn print_points(points: [FocusPoint; 39], count: usize) {
-    let mut i: usize = 0;
-    while i < 39 {
-        if i < count {
-            let p = points[i];
-            print_point(p);
-        }
-        i += 1;
+fn print_points(rt: &impl Print, points: [FocusPoint; 39], count: usize) -> io::Result<()> {
+    for p in points.iter().take(count) {
+        print_point(rt, *p)?;
     }
+    Ok(())
 }
 
-fn print_placed(f: FocusPoints) {
+fn print_placed(rt: &impl Print, f: FocusPoints) -> io::Result<()> {
     let frame = f.frame;
     let points = f.points;
     let mode = f.area_mode;
     let origin = f.origin;
-    number(b"frame ", frame.width);
-    number(b" ", frame.height);
-    number(b" points ", (f.count % 64) as u32);
-    number(b" primary ", (f.primary % 64) as u32);
-    number(b" mode ", reading::focus::mode_number(mode));
-    number(b" origin ", placing::load::origin_number(origin));
-    print_points(points, f.count);
+    number(rt, "frame ", frame.width)?;
+    number(rt, " ", frame.height)?;
+    number(rt, " points ", (f.count % 64) as u32)?;
+    number(rt, " primary ", (f.primary % 64) as u32)?;
+    number(rt, " mode ", reading::focus::mode_number(mode))?;
+    number(rt, " origin ", placing::load::origin_number(origin))?;
+    print_points(rt, points, f.count)
 }
 
 // The 32-bit number at a place.
@@ -71,7 +69,7 @@ fn size_at(s: &[u8], at: usize, given: bool) -> OptionalSize {
 }
 
 // Answers one load.
-fn answer(load: &[u8]) {
+fn answer(rt: &impl Print, load: &[u8]) -> io::Result<()> {
     let flags = numbers::io::u8_at(load, 0);
     let raw = size_at(load, 1, flags % 2 == 1);
     let picture = size_at(load, 9, flags / 2 % 2 == 1);
@@ -83,10 +81,10 @@ fn answer(load: &[u8]) {
     let f = placing::nikon::focus(block, raw, picture, model);
     let how = f.answer;
     match how {
-        FocusAnswer::Refused(why) => number(b"no ", placing::load::refusal_number(why)),
-        FocusAnswer::Accepted => print_placed(f),
+        FocusAnswer::Refused(why) => number(rt, "no ", placing::load::refusal_number(why))?,
+        FocusAnswer::Accepted => print_placed(rt, f)?,
     }
-    text(b"\n");
+    text(rt, "\n")
 }
 
 fn space() -> [u8; 512]
@@ -95,15 +93,26 @@ fn space() -> [u8; 512]
     [0; 512]
 }
 
-fn main() {
-    let mut load = space();
-    let mut turns = u64::MAX;
-    while turns > 0 {
-        let n = io::read_full(STDIN_FILENO, &mut load);
-        if n < 512 {
-            return;
+// Whether there is one more load: reads it. The start of one that the input's end cuts off is none.
+fn is_read(from: &mut impl Read, load: &mut [u8]) -> io::Result<bool> {
+    match from.read_exact(load) {
+        Ok(()) => Ok(true),
+        Err(e) => {
+            if e.kind() == ErrorKind::UnexpectedEof {
+                return Ok(false);
+            }
+            Err(e)
         }
-        answer(&load);
-        turns -= 1;
     }
+}
+
+fn main(rt: HostRuntime) -> io::Result<()> {
+    let mut load = space();
+    for _ in 0..u64::MAX {
+        if !is_read(&mut rt.stdin(), &mut load)? {
+            return Ok(());
+        }
+        answer(&rt, &load)?;
+    }
+    Ok(())
 }

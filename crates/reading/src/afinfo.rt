@@ -10,14 +10,14 @@ use crate::geometry::{Point, Size};
 use numbers::io::{ByteOrder, Pair};
 
 // Where a layout keeps something, if it does.
-#[derive(Drop)]
+#[derive(Clone, Copy)]
 pub enum Place {
     Nowhere,
     At(usize),
 }
 
 // Where a record keeps its frame, centre, area, in-focus byte and names, and how long it is at least.
-#[derive(Drop)]
+#[derive(Clone, Copy)]
 pub struct Layout {
     pub min_len: usize,
     pub frame: usize,
@@ -28,7 +28,7 @@ pub struct Layout {
 }
 
 // A version's text, and which of the layouts it has.
-#[derive(Drop)]
+#[derive(Clone, Copy)]
 pub struct Version {
     pub text: [u8; 4],
     pub layout: usize,
@@ -103,7 +103,7 @@ const VERSIONS: [Version; 7] = [
 ];
 
 // The layout of a record, if its version is one of the seven.
-#[derive(Drop)]
+#[derive(Clone, Copy)]
 pub enum KnownLayout {
     Unknown,
     Known(Layout),
@@ -206,7 +206,7 @@ fn in_focus_at(value: &[u8], place: Place) -> InFocus
 
 // The points that a record names: the layout code of their numbers, the primary's number, and the mask of
 // the points used, one bit each.
-#[derive(Drop)]
+#[derive(Clone, Copy)]
 pub enum NamedPoints {
     NoNames,
     Named {
@@ -243,7 +243,7 @@ fn named_points(value: &[u8], place: Place) -> NamedPoints
 }
 
 // What a record says of the focus point.
-#[derive(Drop)]
+#[derive(Clone, Copy)]
 pub struct FocusRecord {
     pub frame: Size,
     pub center: Point,
@@ -254,7 +254,7 @@ pub struct FocusRecord {
 }
 
 // A record, or why there is none: no entry of its type, or a value that cannot be used.
-#[derive(Drop)]
+#[derive(Clone, Copy)]
 pub enum AfInfo2 {
     NoRecord,
     BadRecord,

@@ -3,7 +3,7 @@ ghost use Rattle.std.specs.Prelude.{◌≡◌};
 ghost use Rattle.reading.specs.Focus.{in_focus_number, mode_number};
 
 // Whether the camera confirmed focus.
-#[derive(Drop)]
+#[derive(Clone, Copy)]
 pub enum InFocus {
     Unrecorded,
     No,
@@ -11,7 +11,7 @@ pub enum InFocus {
 }
 
 // How the camera chose its points; NoMode is 01's 'none'.
-#[derive(Drop)]
+#[derive(Clone, Copy)]
 pub enum FocusAreaMode {
     NoMode,
     Single,

@@ -7,21 +7,21 @@ ghost use Rattle.reading.specs.Contents.{kept_from, kept_tags, is_among, first_e
 use numbers::io::ByteOrder;
 
 // Whether a block can be read, and in which byte order.
-#[derive(Drop)]
+#[derive(Clone, Copy)]
 pub enum Block {
     Unreadable,
     Readable(ByteOrder),
 }
 
 // A directory that lies inside its block: where its first entry starts, and how many it has.
-#[derive(Drop)]
+#[derive(Clone, Copy)]
 pub enum Ifd {
     Outside,
     Inside { first: usize, count: usize },
 }
 
 // The first kept entry of a tag: its type, its count, and which part of the block its value is.
-#[derive(Drop)]
+#[derive(Clone, Copy)]
 pub enum Found {
     Absent,
     Damaged {
@@ -58,6 +58,7 @@ fn block_in(block: &[u8], order: ByteOrder) -> Block
 }
 
 // Whether the block is one that can be read: its length, its header, and its directory.
+#[tactic(auto, unfolding(crate::specs::Block::block_of, crate::specs::Block::by_mark))]
 pub fn parse_block(block: &[u8]) -> Block
     ensures { block_means result ≡ block_of block.now }
 {
@@ -225,7 +226,7 @@ pub fn value_of(block: &[u8], found: Found) -> &[u8]
 }
 
 // Some tags in four places: how many, and the tags; the places behind them are 0.
-#[derive(Drop)]
+#[derive(Clone, Copy)]
 pub struct TagList {
     pub count: usize,
     pub tags: [u16; 4],

@@ -70,6 +70,7 @@ pub fn is_text(text: &[u8], wanted: &[u8]) -> bool
 }
 
 // Whether a FocusMode text reads MANUAL.
+#[tactic(auto, unfolding(crate::specs::Values::is_manual))]
 fn is_manual(value: &[u8]) -> bool
     ensures { result ≡ is_manual value.now }
 {
@@ -103,7 +104,7 @@ fn number_at(value: &[u8], order: ByteOrder, typ: u16, i: usize) -> u32
 }
 
 // What CropHiSpeed records: the crop's mode, the picture's size before and after it, and where it starts.
-#[derive(Drop)]
+#[derive(Clone, Copy)]
 pub struct CropHiSpeed {
     pub mode: u32,
     pub original: Size,
@@ -112,7 +113,7 @@ pub struct CropHiSpeed {
 }
 
 // CropHiSpeed, if it records one.
-#[derive(Drop)]
+#[derive(Clone, Copy)]
 pub enum Crop {
     NoCrop,
     Stated(CropHiSpeed),
@@ -152,7 +153,7 @@ pub fn crop_hi_speed(block: &[u8], order: ByteOrder) -> Crop
 }
 
 // What CropArea gives: nothing, a value that cannot be used, or the size of the window that it describes.
-#[derive(Drop)]
+#[derive(Clone, Copy)]
 pub enum CropArea {
     Absent,
     Unusable,
@@ -230,14 +231,14 @@ pub fn af_info2(block: &[u8], order: ByteOrder) -> AfInfo2
 }
 
 // Whether contents could be read.
-#[derive(Drop)]
+#[derive(Clone, Copy)]
 pub enum ContentsAnswer {
     Unreadable,
     Tags,
 }
 
 // Which of the four tags a note has, where it could be read: those that have a kept entry.
-#[derive(Drop)]
+#[derive(Clone, Copy)]
 pub struct NoteTags {
     pub answer: ContentsAnswer,
     pub list: TagList,

@@ -12,7 +12,7 @@ use crate::nikon::{Crop, CropArea};
 use numbers::io::ByteOrder;
 
 // A reading of a note.
-#[derive(Drop)]
+#[derive(Clone, Copy)]
 pub struct Note<'a> {
     pub block: &'a [u8],
     pub order: ByteOrder,
@@ -42,7 +42,7 @@ pub fn af_info2_of(block: &[u8], order: ByteOrder) -> AfInfo2
 }
 
 // What a load is told by a note: the record, and what there is of the crop.
-#[derive(Drop)]
+#[derive(Clone, Copy)]
 pub struct NoteValues {
     pub recorded: FocusRecord,
     pub crop: Crop,
@@ -50,7 +50,7 @@ pub struct NoteValues {
 }
 
 // How a note is read for a load: refused by 01's numbers 1 to 4, in this order, or its values.
-#[derive(Drop)]
+#[derive(Clone, Copy)]
 pub enum NoteAnswer {
     Unreadable,
     NoRecord,

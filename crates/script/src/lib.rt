@@ -1,5 +1,7 @@
 // Answers a whole script of lines that lies in memory: the sheet is handed one line after the other, and what they are answered stands
 // in a lent buffer.
+#![tactic(auto)]
+
 ghost use Rattle.std.specs.Prelude.{◌≡◌, ◌+◌, ◌≤◌, min, length, drop};
 ghost use Rattle.text.specs.Put.{Put};
 ghost use Rattle.script.specs.Script.{script_text, answered_with, buffer_with};
@@ -8,7 +10,7 @@ ghost use Rattle.script.specs.Inside.{feed_at};
 use sheet::Sheet;
 
 // How a whole script is answered: there is no room for the text, or it is written and is so long.
-#[derive(Drop)]
+#[derive(Clone, Copy)]
 pub enum Answered {
     Short,
     Written(usize),

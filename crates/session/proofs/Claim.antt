@@ -4,7 +4,7 @@
 use Prim.Native.Nat.{ℕ}
 use mathlib.Core.List.{List, [], ◌∷◌}
 use mathlib.Core.Path.{◌≡◌, refl, sym, ap, ap₂, ◌∙◌}
-use Rattle.answers.specs.Answers.{noText}
+use Rattle.answers.specs.Answers.{no_text}
 use Rattle.reading.specs.Outcome.{Outcome, refused, accepted}
 use Rattle.reading.specs.Contents.{contents_of}
 use Rattle.sheet.specs.declared.Sheet.{Sheet}
@@ -30,7 +30,7 @@ calls_of (l ∷ ls) = calls (spelled l) (calls_of ls)
 
 -- a line's text, of the answers from its own on, and the answers after it
 first_text : Outcome Spelled → List Answer → List ℕ
-first_text (refused n) answers = noText n
+first_text (refused n) answers = no_text n
 first_text (accepted (contents block)) answers = contents_text (contents_of block)
 first_text (accepted (asks c)) [] = []
 first_text (accepted (asks c)) (a ∷ answers) = answer_text a

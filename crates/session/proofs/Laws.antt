@@ -9,10 +9,10 @@ use lib.Seq.{sets, sets-eq, length-sets, take_at, take_all, length-take-le}
 use native.Mathlib.Omega.{arith}
 use Rattle.laws.proofs.Tests.{by_bool, by_order}
 use Rattle.reading.specs.Outcome.{Outcome, refused, accepted}
-use Rattle.hex.specs.Hex.{well_formed, bytes_of, decoded_of, decoded_means, buffer_of}
-use Rattle.hex.specs.declared.Decoded.{Decoded}
-use Rattle.hex.specs.declared.Decoded.TheVariants.{Malformed, Bytes}
-use Rattle.hex.proofs.Laws.{bytes_long, well_over, well_short}
+use Rattle.hex_lines.specs.Hex.{well_formed, bytes_of, decoded_of, decoded_means, buffer_of}
+use Rattle.hex_lines.specs.declared.Decoded.{Decoded}
+use Rattle.hex_lines.specs.declared.Decoded.TheVariants.{Malformed, Bytes}
+use Rattle.hex_lines.proofs.Laws.{bytes_long, well_over, well_short}
 use Rattle.session.specs.Lines.{spelled, spelled_in}
 
 -- a line that decodes to d, its bytes laid over z

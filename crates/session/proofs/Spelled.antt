@@ -9,10 +9,10 @@ use lib.ListN.{length, take, drop, length-append}
 use native.Mathlib.Omega.{arith}
 use Rattle.laws.proofs.Tests.{by_bool}
 use Rattle.reading.specs.Outcome.{Outcome, refused, accepted}
-use Rattle.hex.specs.Hex.{well_formed, bytes_of}
-use Rattle.hex.specs.Laws.{AreBytes, line_of, ReadsAs}
-use Rattle.hex.proofs.Laws.{bytes_long, well_short}
-use Rattle.hex.proofs.Written.{written_is_read, either_case, read_is_bytes, read_is_written}
+use Rattle.hex_lines.specs.Hex.{well_formed, bytes_of}
+use Rattle.hex_lines.specs.Laws.{AreBytes, line_of, ReadsAs}
+use Rattle.hex_lines.proofs.Laws.{bytes_long, well_short}
+use Rattle.hex_lines.proofs.Written.{written_is_read, either_case, read_is_bytes, read_is_written}
 use Rattle.calls.specs.Format.{LineCall, line_load, line_cut, line_back, line_list, line_fit, line_contents, line_orient, model_length, model_part, block_part, contents_part, call_of, model_given, block_given}
 use Rattle.calls.specs.Laws.{check_of, checked, encoded, Encodes, EncodedOrMalformed, is_malformed, is_encoded}
 use Rattle.calls.proofs.Encoded.{encoded_is_read, encoded_is_bytes}

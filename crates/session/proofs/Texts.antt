@@ -8,7 +8,7 @@ use lib.ListN.{length, replicate, get_or-append}
 use native.Mathlib.Nat.{min-eq_left}
 use native.Mathlib.Omega.{arith}
 use borrow.Author.Tests.{eq-eqb, ne_eqb}
-use Rattle.answers.specs.Answers.{okText, noText, spacedAll, tagsText, headText, pointsText}
+use Rattle.answers.specs.Answers.{ok_text, no_text, spaced_all, tags_text, head_text, points_text}
 use Rattle.text.specs.Put.{Put, Puts}
 use Rattle.text.proofs.Laws.{◌▹◌, at_most}
 use Rattle.laws.proofs.Tests.{by_cond}
@@ -66,7 +66,7 @@ edit_number edit.DropsPrimary = refl
 edit_number edit.NothingStands = refl
 edit_number edit.NoOrientation = refl
 
-refusal_number_lem : (why : Refusal) → number_text (refusal_number why) ≡ noText (refusal_number why)
+refusal_number_lem : (why : Refusal) → number_text (refusal_number why) ≡ no_text (refusal_number why)
 unfolding number_text refusal_number
 refusal_number_lem why.Unreadable = refl
 refusal_number_lem why.NoRecord = refl
@@ -81,23 +81,23 @@ load_number load-answer.Accepted = refl
 load_number (load-answer.Refused why) = refusal_number_lem why
 
 -- the first numbers of a list, with more behind it
-spaced_front : (ws vs : List ℕ) (n : ℕ) → n ≤ length ws → spacedAll (ws ++ vs) n ≡ spacedAll ws n
-unfolding spacedAll
+spaced_front : (ws vs : List ℕ) (n : ℕ) → n ≤ length ws → spaced_all (ws ++ vs) n ≡ spaced_all ws n
+unfolding spaced_all
 spaced_front ws vs zero h = refl
 spaced_front ws vs (suc n) h = rw (spaced_front ws vs n (omega arith), get_or-append ws vs 0 n (omega arith))
 
 module _ {o o₁ : List ℕ} {a a₁ : ℕ} where
   -- ---- a number
-  pub outcome_ok : (n : ℕ) → n ≡ 0 → Put o a okText o₁ a₁ → Puts o a (number_text n) 14 o₁ a₁
+  pub outcome_ok : (n : ℕ) → n ≡ 0 → Put o a ok_text o₁ a₁ → Puts o a (number_text n) 14 o₁ a₁
   unfolding number_text
   outcome_ok n e p = rw (eq-eqb n 0 e) (p, omega arith)
 
-  pub outcome_no : (n : ℕ) → (n ≡ 0 → ⊥) → Puts o a (noText n) 14 o₁ a₁ → Puts o a (number_text n) 14 o₁ a₁
+  pub outcome_no : (n : ℕ) → (n ≡ 0 → ⊥) → Puts o a (no_text n) 14 o₁ a₁ → Puts o a (number_text n) 14 o₁ a₁
   unfolding number_text
   outcome_no n e p = rw (ne_eqb n 0 e) p
 
   -- ---- a listing
-  pub list_no : (x y : ListAnswer) (ws : List ℕ) (n : ℕ) → x ≡ y → list_means y ≡ refused n → Puts o a (noText n) 14 o₁ a₁
+  pub list_no : (x y : ListAnswer) (ws : List ℕ) (n : ℕ) → x ≡ y → list_means y ≡ refused n → Puts o a (no_text n) 14 o₁ a₁
       → Puts o a (outcome_text (list_means x) ws) most_text o₁ a₁
   list_no x y ws n e f p = rw (e, f) (at_most p (omega arith))
 
@@ -105,20 +105,20 @@ module _ {o o₁ : List ℕ} {a a₁ : ℕ} where
       → Puts o a (outcome_text (list_means x) ws) most_text o₁ a₁
   list_yes x ws l e p = rw e p
 
-  pub listing_text : {o₂ : List ℕ} {a₂ : ℕ} (l : ListHead) (ws hs : List ℕ) → hs ≡ head_numbers l → l.count ≤ 39 → Puts o a (headText hs) 99 o₁ a₁
-      → Puts o₁ a₁ (pointsText ws (min l.count 39)) 2574 o₂ a₂ → Puts o a (given_text (head_numbers l) ws) most_text o₂ a₂
+  pub listing_text : {o₂ : List ℕ} {a₂ : ℕ} (l : ListHead) (ws hs : List ℕ) → hs ≡ head_numbers l → l.count ≤ 39 → Puts o a (head_text hs) 99 o₁ a₁
+      → Puts o₁ a₁ (points_text ws (min l.count 39)) 2574 o₂ a₂ → Puts o a (given_text (head_numbers l) ws) most_text o₂ a₂
   unfolding given_text head_numbers
   listing_text l ws hs e h p q = at_most (rw e at p ▹ rw (min-eq_left h) at q) (omega arith)
 
   -- ---- contents
   pub contents_no : (r : NoteTags) (x : Outcome (List ℕ)) → contents_means r ≡ laid_tags x → r.answer ≡ contents-answers.Unreadable
-      → Puts o a (noText 1) 14 o₁ a₁ → Puts o a (contents_text x) most_text o₁ a₁
+      → Puts o a (no_text 1) 14 o₁ a₁ → Puts o a (contents_text x) most_text o₁ a₁
   unfolding contents_text
   contents_no r x e f p = unreadable_is r (λ (y : Outcome (List ℕ)). Puts o a (contents_text y) most_text o₁ a₁) f (at_most p (omega arith)) x e
 
   pub contents_yes : (r : NoteTags) (x : Outcome (List ℕ)) → contents_means r ≡ laid_tags x → FourIn x → r.answer ≡ contents-answers.Tags
-      → Puts o a (tagsText (min r.list.count 4) r.list.tags) 60 o₁ a₁ → Puts o a (contents_text x) most_text o₁ a₁
-  unfolding contents_text tagsText
+      → Puts o a (tags_text (min r.list.count 4) r.list.tags) 60 o₁ a₁ → Puts o a (contents_text x) most_text o₁ a₁
+  unfolding contents_text tags_text
   contents_yes r x e h f p =
       let q = rw (min-eq_left (few_listed r x h e)) at p in
       tags_are r (λ (y : Outcome (List ℕ)). Puts o a (contents_text y) most_text o₁ a₁) f

@@ -2,7 +2,7 @@
 -- of calls that can be written, in either case, which proofs/Spelled.antt proves.
 use Rattle.std.specs.Prelude.{ℕ, ◌≤◌, List, ◌⊎◌, ◌≡◌, length}
 use Rattle.reading.specs.Outcome.{refused, accepted}
-use Rattle.hex.specs.Laws.{AreBytes, line_of, upper_line}
+use Rattle.hex_lines.specs.Laws.{AreBytes, line_of, upper_line}
 use Rattle.calls.specs.Format.{LineCall}
 use Rattle.calls.specs.Laws.{encoded, Encodable}
 use Rattle.session.specs.Lines.{spelling, spelled}

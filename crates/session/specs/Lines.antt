@@ -1,7 +1,7 @@
 -- 01, "After the sheet": what a line spells. Nothing of the sheet stands here.
 use Rattle.std.specs.Prelude.{ℕ, cond, List, replicate}
 use Rattle.reading.specs.Outcome.{Outcome, refused, accepted}
-use Rattle.hex.specs.Hex.{well_formed, bytes_of}
+use Rattle.hex_lines.specs.Hex.{well_formed, bytes_of}
 use Rattle.calls.specs.Format.{LineCall, line_load, line_cut, line_back, line_list, line_fit, line_contents, line_orient, call_of, model_given, block_given}
 use Rattle.journal.specs.Journal.{cut, orient}
 use Rattle.journal.specs.Calls.{Call, load, change, back, list, fit}

@@ -1,4 +1,6 @@
 // Answers a line: the call that it spells is made of the sheet, and its answer is put as text into a lent buffer.
+#![tactic(auto)]
+
 ghost use Rattle.std.specs.Prelude.{◌≡◌, ◌≤◌, length};
 ghost use Rattle.text.specs.Put.{Puts};
 ghost use Rattle.reading.specs.Outcome.{refused, accepted};
@@ -13,14 +15,14 @@ ghost use Rattle.session.specs.Answering.{most_text, Answers};
 ghost use Rattle.session.specs.Inside.{AtMost39, number_text};
 
 use calls::Call;
-use hex::Decoded;
+use hex_lines::Decoded;
 use reading::geometry::{OptionalSize, Size};
 use reading::nikon::ContentsAnswer;
 use sheet::listing::{ListAnswer, ListHead};
 use sheet::{Edited, Sheet};
 
 // A sheet after a line, and the place after its answer.
-#[derive(Drop)]
+#[derive(Clone, Copy)]
 pub struct Stepped {
     pub sheet: Sheet,
     pub at: usize,
@@ -199,7 +201,7 @@ pub fn step(sheet: Sheet, line: &[u8], out: &mut [u8], at: usize) -> Stepped
     ensures { Answers sheet (spelled line.now) out.old at out.new result }
 {
     let mut bytes = no_bytes();
-    match hex::decode(line, &mut bytes) {
+    match hex_lines::decode(line, &mut bytes) {
         Decoded::Malformed => answer_malformed(sheet, out, at),
         Decoded::Bytes(n) => answer_bytes(sheet, &bytes[..n], out, at),
     }

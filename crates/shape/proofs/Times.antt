@@ -33,7 +33,7 @@ side_times k s c f pos some e l =
     let near : s ≤ c + c = omega (arith, a.0) in
     let far : s + (c + c) ≤ f + f = omega (arith, a.1) in
     let near_times : k * s ≤ k * c + k * c = rw (← mul-add k c c) (mul-le-mul_left k near) in
-    let far-times : k * s + (k * c + k * c) ≤ k * f + k * f =
+    let far_times : k * s + (k * c + k * c) ≤ k * f + k * f =
     rw (← mul-add k c c, ← mul-add k s (c + c), ← mul-add k f f) (mul-le-mul_left k far) in
     let any : 0 < k * s = mul-pos pos some in
     rw (scale_times k s f (omega arith) (omega arith)) (omega arith)

@@ -1,5 +1,7 @@
 // Boxes for fitting: whether one has the shape of a frame, `same_shape` of geometry.rs, and the one that a blank side stands for. A public
 // function is total: it asks nothing of its caller.
+#![tactic(auto)]
+
 ghost use Rattle.std.specs.Prelude.{◌≡◌, max};
 ghost use Rattle.shape.specs.Shape.{difference, longest_side, same_shape};
 ghost use Rattle.shape.specs.WorkedBox.{worked_side, worked_box};

@@ -1,11 +1,14 @@
 // Prints for each pair of sizes of standard input whether the two have one shape, by shape::same_shape: a line `true` or `false`. A pair
 // is 16 bytes, four 32-bit numbers: the frame's width and height, the picture's width and height. Numbers are big-endian. No contract
 // can say what is printed: that is held to `stdout`.
+#![tactic(auto)]
+
 ghost use Rattle.std.specs.Prelude.{◌≡◌, length};
 
-use libc::{STDIN_FILENO, STDOUT_FILENO};
 use numbers::io::ByteOrder;
 use reading::geometry::Size;
+use std::io;
+use std::io::{ErrorKind, Read};
 
 // The size at the front.
 fn size_of(s: &[u8]) -> Size {
@@ -15,13 +18,13 @@ fn size_of(s: &[u8]) -> Size {
 }
 
 // Answers one pair.
-fn answer(pair: &[u8]) {
+fn answer(rt: &impl Print, pair: &[u8]) -> io::Result<()> {
     let frame = size_of(pair);
     let picture = size_of(numbers::io::tail(pair, 8));
     if shape::same_shape(frame, picture) {
-        io::write_all(STDOUT_FILENO, b"true\n");
+        rt.print("true\n")
     } else {
-        io::write_all(STDOUT_FILENO, b"false\n");
+        rt.print("false\n")
     }
 }
 
@@ -31,15 +34,26 @@ fn space() -> [u8; 16]
     [0; 16]
 }
 
-fn main() {
-    let mut pair = space();
-    let mut turns = u64::MAX;
-    while turns > 0 {
-        let n = io::read_full(STDIN_FILENO, &mut pair);
-        if n < 16 {
-            return;
+// Whether there is one more pair: reads it. The start of one that the input's end cuts off is none.
+fn is_read(from: &mut impl Read, pair: &mut [u8]) -> io::Result<bool> {
+    match from.read_exact(pair) {
+        Ok(()) => Ok(true),
+        Err(e) => {
+            if e.kind() == ErrorKind::UnexpectedEof {
+                return Ok(false);
+            }
+            Err(e)
         }
-        answer(&pair);
-        turns -= 1;
     }
+}
+
+fn main(rt: HostRuntime) -> io::Result<()> {
+    let mut pair = space();
+    for _ in 0..u64::MAX {
+        if !is_read(&mut rt.stdin(), &mut pair)? {
+            return Ok(());
+        }
+        answer(&rt, &pair)?;
+    }
+    Ok(())
 }

@@ -12,7 +12,7 @@ use reading::focus::InFocus;
 use reading::geometry::{Point, Size};
 
 // One of the eight orientations, or a cut to a rectangle.
-#[derive(Drop)]
+#[derive(Clone, Copy)]
 pub enum Edit {
     Orient(Orientation),
     Cut {
@@ -24,7 +24,7 @@ pub enum Edit {
 }
 
 // How cut, orient and back end: accepted, or refused by 01's numbers 7 to 11 or 02's 15, in this order.
-#[derive(Drop)]
+#[derive(Clone, Copy)]
 pub enum EditAnswer {
     Accepted,
     Empty,
@@ -36,7 +36,7 @@ pub enum EditAnswer {
 }
 
 // A point after some edits: whether no cut dropped it, where it is, and the frame that it is in.
-#[derive(Drop)]
+#[derive(Clone, Copy)]
 pub struct Carried {
     pub listed: bool,
     pub point: FocusPoint,
@@ -255,7 +255,8 @@ fn walk(
     requires { i + n ≤ 64 }
     ensures { walk_end result number in_focus end.new ≡ walked words.now i n (carried_by listed number center size in_focus frame) }
 {
-    if n == 0 {
+    let is_end = n == 0;
+    if is_end {
         *end = [
             center.x,
             center.y,

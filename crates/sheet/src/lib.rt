@@ -1,6 +1,8 @@
 // The sheet: the points of one load, under edits that stand until they are taken back. A public method takes the sheet by value and
 // asks nothing of its caller; load, cut, orient and back give back the sheet that they leave, list and fit do not change it. A refused
 // call changes nothing.
+#![tactic(auto)]
+
 ghost use Rattle.std.specs.Prelude.{◌≡◌, ◌<◌, ◌≤◌};
 ghost use Rattle.placing.specs.Focus.{focus_of};
 ghost use Rattle.sheet.specs.Answer.{edit_means};
@@ -25,7 +27,7 @@ const MOST_EDITS: usize = 64;
 
 // The frame, points, primary, area mode and origin of a load, and the edits that stand, in their order. The first `count` of 39
 // places hold a point each, the first `standing` of 64 groups of five words an edit each. Nothing is loaded in a new sheet.
-#[derive(Drop)]
+#[derive(Clone, Copy)]
 pub struct Sheet {
     pub loaded: bool,
     pub frame: Size,
@@ -39,14 +41,14 @@ pub struct Sheet {
 }
 
 // A sheet after cut, orient or back.
-#[derive(Drop)]
+#[derive(Clone, Copy)]
 pub struct Edited {
     pub answer: EditAnswer,
     pub sheet: Sheet,
 }
 
 // A sheet after load.
-#[derive(Drop)]
+#[derive(Clone, Copy)]
 pub struct Loaded {
     pub answer: FocusAnswer,
     pub sheet: Sheet,
@@ -54,7 +56,7 @@ pub struct Loaded {
 
 // The listed ones among some points, where the standing edits carry them: in 39 places, how many there are, and the primary's index
 // among them. And the primary's place, listed or not: its frame is the present one.
-#[derive(Drop)]
+#[derive(Clone, Copy)]
 struct Present {
     primary_place: Carried,
     points: [FocusPoint; 39],
@@ -128,6 +130,7 @@ impl Sheet {
     }
 
     // Whether the sheet is loaded, its counts lie within its places, and its primary is one of its points.
+    #[tactic(auto, unfolding(crate::specs::Sheet::usable))]
     pub fn is_usable(self) -> bool
         ensures { result ≡ usable self }
     {

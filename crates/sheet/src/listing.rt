@@ -10,7 +10,7 @@ use reading::focus::FocusAreaMode;
 use reading::geometry::Size;
 
 // What a listing says beside its points: their frame and number, and the primary's index among them.
-#[derive(Drop)]
+#[derive(Clone, Copy)]
 pub struct ListHead {
     pub frame: Size,
     pub count: usize,
@@ -20,7 +20,7 @@ pub struct ListHead {
 }
 
 // How list and fit end: refused by 01's numbers 7 and 12, 02's 19 and 01's 13, in this order, or listed.
-#[derive(Drop)]
+#[derive(Clone, Copy)]
 pub enum ListAnswer {
     Empty,
     ZeroBox,

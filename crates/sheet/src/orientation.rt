@@ -9,7 +9,7 @@ use reading::geometry::{Point, Size};
 
 // How a picture is brought upright, by Exif's numbers 1 to 8 in this order. Rotations are clockwise; a transposed picture is mirrored
 // at the diagonal from its top left corner, a transverse one at the other diagonal.
-#[derive(Drop)]
+#[derive(Clone, Copy)]
 pub enum Orientation {
     Normal,
     FlipHorizontal,
@@ -22,14 +22,14 @@ pub enum Orientation {
 }
 
 // The orientation that a number stands for; none where the number is outside 1 to 8, 02's number 15.
-#[derive(Drop)]
+#[derive(Clone, Copy)]
 pub enum OptionalOrientation {
     Outside,
     Given(Orientation),
 }
 
 // A point, and the frame that it is in.
-#[derive(Drop)]
+#[derive(Clone, Copy)]
 pub struct Framed {
     pub point: FocusPoint,
     pub frame: Size,

@@ -9,12 +9,15 @@
 // workspace: what is left is handing the state on. 9 a fit to the box on a sheet, into 240 places. Prints for each job the kind, how
 // many times, the last answer (`ok`, `no N`, or `none` without a call), how many edits stand at the end, and the sum of the 240 places,
 // modulo 2 to the 32nd, where there are some. No contract can say what is printed: that is held to `stdout`.
+#![tactic(auto)]
+
 ghost use Rattle.std.specs.Prelude.{◌≡◌, length};
 
-use libc::{STDIN_FILENO, STDOUT_FILENO};
 use numbers::io::ByteOrder;
 use reading::geometry::{OptionalSize, Size};
 use sheet::Sheet;
+use std::io;
+use std::io::{ErrorKind, Read};
 use workspace::Workspace;
 
 const TURN: u32 = 6;
@@ -22,35 +25,32 @@ const TURN: u32 = 6;
 // No answer has this number.
 const NO_CALL: u32 = 255;
 
-fn text(s: &[u8]) {
-    io::write_all(STDOUT_FILENO, s);
+fn text(rt: &impl Print, s: &str) -> io::Result<()> {
+    rt.print(s)
 }
 
 // A word and a number in decimal.
-fn number(word: &[u8], n: u64) {
-    text(word);
-    io::print_decimal(STDOUT_FILENO, n);
+fn number(rt: &impl Print, word: &str, n: u64) -> io::Result<()> {
+    print!(rt; "{word}{n}")
 }
 
 // The last answer by its number, 0 for accepted, and how many edits stand.
-fn print_end(answer: u32, standing: usize) {
+fn print_end(rt: &impl Print, answer: u32, standing: usize) -> io::Result<()> {
     if answer == NO_CALL {
-        text(b": none");
+        text(rt, ": none")?;
     } else if answer == 0 {
-        text(b": ok");
+        text(rt, ": ok")?;
     } else {
-        number(b": no ", answer as u64);
+        number(rt, ": no ", answer as u64)?;
     }
-    number(b", standing ", standing as u64);
+    number(rt, ", standing ", standing as u64)
 }
 
 // The sum of a buffer's places, carries dropped.
 fn sum(places: &[u32; 240]) -> u32 {
     let mut total: u32 = 0;
-    let mut i: usize = 0;
-    while i < 240 {
-        total = std::num::wrapping_add_u32(total, places[i]);
-        i += 1;
+    for n in places {
+        total = total.wrapping_add(*n);
     }
     total
 }
@@ -105,10 +105,8 @@ fn sheet_of(load: &[u8], job: &[u8]) -> Sheet {
     let missing = OptionalSize::Missing;
     let loaded = Sheet::new().load(block_in(load), missing, missing, model_in(load));
     let mut s = loaded.sheet;
-    let mut left = numbers::io::u8_at(job, 5);
-    while left > 0 {
+    for _ in 0..numbers::io::u8_at(job, 5) {
         s = edited(s, job);
-        left -= 1;
     }
     s
 }
@@ -124,173 +122,169 @@ fn name_at(place: u8) -> [u8; 16] {
 fn workspace_of(load: &[u8], job: &[u8]) -> Workspace {
     let mut w = Workspace::new();
     w.sheet = sheet_of(load, job);
-    let mut place: u8 = 0;
-    while place < 8 {
+    for place in 0..8 {
         let name = name_at(place);
         let kept = w.keep(&name);
         w = kept.workspace;
-        place += 1;
     }
     w
 }
 
-fn edits_on_sheet(sheet: Sheet, job: &[u8], count: u32) {
+fn edits_on_sheet(rt: &impl Print, sheet: Sheet, job: &[u8], count: u32) -> io::Result<()> {
     let mut s = sheet;
     let mut last = NO_CALL;
-    let mut left = count;
-    while left > 0 {
+    for _ in 0..count {
         let r = edited(s, job).back();
         let answer = r.answer;
         last = sheet::edits::edit_number(answer);
         s = r.sheet;
-        left -= 1;
     }
-    print_end(last, s.standing);
+    print_end(rt, last, s.standing)
 }
 
-fn turns_on_workspace(workspace: Workspace, count: u32) {
+fn turns_on_workspace(rt: &impl Print, workspace: Workspace, count: u32) -> io::Result<()> {
     let mut w = workspace;
     let mut last = NO_CALL;
-    let mut left = count;
-    while left > 0 {
+    for _ in 0..count {
         let turned = w.orient(TURN);
         let between = turned.workspace;
         let r = between.back();
         let answer = r.answer;
         last = sheet::edits::edit_number(answer);
         w = r.workspace;
-        left -= 1;
     }
     let s = w.sheet;
-    print_end(last, s.standing);
+    print_end(rt, last, s.standing)
 }
 
-fn keeps_and_returns(workspace: Workspace, name: &[u8], count: u32) {
+fn keeps_and_returns(
+    rt: &impl Print,
+    workspace: Workspace,
+    name: &[u8],
+    count: u32,
+) -> io::Result<()> {
     let mut w = workspace;
     let mut last = NO_CALL;
-    let mut left = count;
-    while left > 0 {
+    for _ in 0..count {
         let kept = w.keep(name);
         let between = kept.workspace;
         let r = between.return_to(name);
         let answer = r.answer;
         last = workspace::checkpoint_number(answer);
         w = r.workspace;
-        left -= 1;
     }
     let s = w.sheet;
-    print_end(last, s.standing);
+    print_end(rt, last, s.standing)
 }
 
-fn keeps(workspace: Workspace, name: &[u8], count: u32) {
+fn keeps(rt: &impl Print, workspace: Workspace, name: &[u8], count: u32) -> io::Result<()> {
     let mut w = workspace;
     let mut last = NO_CALL;
-    let mut left = count;
-    while left > 0 {
+    for _ in 0..count {
         let r = w.keep(name);
         let answer = r.answer;
         last = workspace::checkpoint_number(answer);
         w = r.workspace;
-        left -= 1;
     }
     let s = w.sheet;
-    print_end(last, s.standing);
+    print_end(rt, last, s.standing)
 }
 
-fn lists_on_sheet(sheet: Sheet, out: &mut [u32], count: u32) {
+fn lists_on_sheet(rt: &impl Print, sheet: Sheet, out: &mut [u32], count: u32) -> io::Result<()> {
     let mut last = NO_CALL;
-    let mut left = count;
-    while left > 0 {
+    for _ in 0..count {
         last = sheet::listing::list_number(sheet.list(out));
-        left -= 1;
     }
-    print_end(last, sheet.standing);
+    print_end(rt, last, sheet.standing)
 }
 
-fn lists_on_workspace(workspace: Workspace, out: &mut [u32], count: u32) {
+fn lists_on_workspace(
+    rt: &impl Print,
+    workspace: Workspace,
+    out: &mut [u32],
+    count: u32,
+) -> io::Result<()> {
     let mut last = NO_CALL;
-    let mut left = count;
-    while left > 0 {
+    for _ in 0..count {
         last = sheet::listing::list_number(workspace.list(out));
-        left -= 1;
     }
     let s = workspace.sheet;
-    print_end(last, s.standing);
+    print_end(rt, last, s.standing)
 }
 
-fn fits_on_sheet(sheet: Sheet, size: Size, out: &mut [u32], count: u32) {
+fn fits_on_sheet(
+    rt: &impl Print,
+    sheet: Sheet,
+    size: Size,
+    out: &mut [u32],
+    count: u32,
+) -> io::Result<()> {
     let mut last = NO_CALL;
-    let mut left = count;
-    while left > 0 {
+    for _ in 0..count {
         last = sheet::listing::list_number(sheet.fit(size, out));
-        left -= 1;
     }
-    print_end(last, sheet.standing);
+    print_end(rt, last, sheet.standing)
 }
 
-fn refusals_on_sheet(sheet: Sheet, count: u32) {
+fn refusals_on_sheet(rt: &impl Print, sheet: Sheet, count: u32) -> io::Result<()> {
     let mut s = sheet;
     let mut last = NO_CALL;
-    let mut left = count;
-    while left > 0 {
+    for _ in 0..count {
         let r = s.orient(0);
         let answer = r.answer;
         last = sheet::edits::edit_number(answer);
         s = r.sheet;
-        left -= 1;
     }
-    print_end(last, s.standing);
+    print_end(rt, last, s.standing)
 }
 
-fn refusals_on_workspace(workspace: Workspace, count: u32) {
+fn refusals_on_workspace(rt: &impl Print, workspace: Workspace, count: u32) -> io::Result<()> {
     let mut w = workspace;
     let mut last = NO_CALL;
-    let mut left = count;
-    while left > 0 {
+    for _ in 0..count {
         let r = w.orient(0);
         let answer = r.answer;
         last = sheet::edits::edit_number(answer);
         w = r.workspace;
-        left -= 1;
     }
     let s = w.sheet;
-    print_end(last, s.standing);
+    print_end(rt, last, s.standing)
 }
 
 // The lists of kinds 5 and 6 and the fits of kind 9, in a buffer of their own, which is read at the end: the compiler leaves out what is
 // written into one that nobody reads.
-fn lists(load: &[u8], job: &[u8], kind: u8, count: u32) {
+fn lists(rt: &impl Print, load: &[u8], job: &[u8], kind: u8, count: u32) -> io::Result<()> {
     let mut out = [0u32; 240];
     if kind == 5 {
-        lists_on_sheet(sheet_of(load, job), &mut out, count);
+        lists_on_sheet(rt, sheet_of(load, job), &mut out, count)?;
     } else if kind == 6 {
-        lists_on_workspace(workspace_of(load, job), &mut out, count);
+        lists_on_workspace(rt, workspace_of(load, job), &mut out, count)?;
     } else {
-        fits_on_sheet(sheet_of(load, job), box_in(job), &mut out, count);
+        fits_on_sheet(rt, sheet_of(load, job), box_in(job), &mut out, count)?;
     }
-    number(b", sum ", sum(&out) as u64);
+    number(rt, ", sum ", sum(&out) as u64)
 }
 
 // Does one job.
-fn run(load: &[u8], job: &[u8]) {
+fn run(rt: &impl Print, load: &[u8], job: &[u8]) -> io::Result<()> {
     let kind = numbers::io::u8_at(job, 0);
     let count = number_at(job, 1);
     let name = name_at(7);
-    number(b"kind ", kind as u64);
-    number(b", times ", count as u64);
+    number(rt, "kind ", kind as u64)?;
+    number(rt, ", times ", count as u64)?;
     match kind {
-        1 => edits_on_sheet(sheet_of(load, job), job, count),
-        2 => turns_on_workspace(workspace_of(load, job), count),
-        3 => keeps_and_returns(workspace_of(load, job), &name, count),
-        4 => keeps(workspace_of(load, job), &name, count),
-        5 => lists(load, job, kind, count),
-        6 => lists(load, job, kind, count),
-        7 => refusals_on_sheet(sheet_of(load, job), count),
-        8 => refusals_on_workspace(workspace_of(load, job), count),
-        9 => lists(load, job, kind, count),
-        _ => text(b": no such kind"),
+        1 => edits_on_sheet(rt, sheet_of(load, job), job, count)?,
+        2 => turns_on_workspace(rt, workspace_of(load, job), count)?,
+        3 => keeps_and_returns(rt, workspace_of(load, job), &name, count)?,
+        4 => keeps(rt, workspace_of(load, job), &name, count)?,
+        5 => lists(rt, load, job, kind, count)?,
+        6 => lists(rt, load, job, kind, count)?,
+        7 => refusals_on_sheet(rt, sheet_of(load, job), count)?,
+        8 => refusals_on_workspace(rt, workspace_of(load, job), count)?,
+        9 => lists(rt, load, job, kind, count)?,
+        _ => text(rt, ": no such kind")?,
     }
-    text(b"\n");
+    text(rt, "\n")
 }
 
 fn space() -> [u8; 512]
@@ -299,20 +293,30 @@ fn space() -> [u8; 512]
     [0; 512]
 }
 
-fn main() {
+// Whether there is one more load or job: reads it. The start of one that the input's end cuts off is none.
+fn is_read(from: &mut impl Read, part: &mut [u8]) -> io::Result<bool> {
+    match from.read_exact(part) {
+        Ok(()) => Ok(true),
+        Err(e) => {
+            if e.kind() == ErrorKind::UnexpectedEof {
+                return Ok(false);
+            }
+            Err(e)
+        }
+    }
+}
+
+fn main(rt: HostRuntime) -> io::Result<()> {
     let mut load = space();
     let mut job = space();
-    let first = io::read_full(STDIN_FILENO, &mut load);
-    if first < 512 {
-        return;
+    if !is_read(&mut rt.stdin(), &mut load)? {
+        return Ok(());
     }
-    let mut rounds = u64::MAX;
-    while rounds > 0 {
-        let n = io::read_full(STDIN_FILENO, &mut job);
-        if n < 512 {
-            return;
+    for _ in 0..u64::MAX {
+        if !is_read(&mut rt.stdin(), &mut job)? {
+            return Ok(());
         }
-        run(&load, &job);
-        rounds -= 1;
+        run(&rt, &load, &job)?;
     }
+    Ok(())
 }

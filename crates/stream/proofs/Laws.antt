@@ -24,7 +24,7 @@ use Rattle.session.specs.Answering.{sheet_text, sheet_next, most_text, Answers}
 use Rattle.stream.specs.declared.Fed.{Fed}
 use Rattle.stream.specs.Stream.{line_room, held_with, held_after_piece, line_after_piece, sheet_after_piece, piece_text, used_in_line, used_of, last_text, Holding, Taken, Feeds, Ends}
 use Rattle.stream.specs.Inside.{HeldIn, CharKept, CharsTaken, RunTaken, LineTaken}
-use Rattle.stream.proofs.Pieces.{held_app, line_app, sheet_app, text_app, held_feed, line_feed, sheet_feed, text_feed, used_feed, held_char, line_char, sheet_char, text_char, used_char, held_nil, line_nil, sheet_nil, text_nil, used_nil, used_room, used_stop, line_long}
+use Rattle.stream.proofs.Pieces.{held_app, line_app, sheet_app, text_app, held_feed, line_feed_lem, sheet_feed, text_feed, used_feed, held_char, line_char, sheet_char, text_char, used_char, held_nil, line_nil, sheet_nil, text_nil, used_nil, used_room, used_stop, line_long}
 
 -- ---- room for an answer
 pub no_room : (len at : ℕ) → len < at → false ≡ leb (at + most_text) len
@@ -193,7 +193,7 @@ module _ {l₀ h t l : List ℕ} {n : ℕ} (q : CharsTaken l₀ h t l n) (s : Sh
         sheet_after = e ∙ sym (sheet_feed s (take n l));
         holding =
             record {
-              line_after = sym (line_feed l (take n l));
+              line_after = sym (line_feed_lem l (take n l));
               held_after = sym (held_feed (take n l));
               held_count = ap length (sym (held_feed (take n l)));
             };
@@ -376,9 +376,9 @@ module _ (l : List ℕ) (n k : ℕ) (e : k ≡ min n line_room) where
   feeds_any room p = rw (take_line room) p
 
   -- ---- the end of the input
-  no_text : (s : Sheet) → k ≡ 0 → last_text s (take n l) ≡ []
+  no_text_lem : (s : Sheet) → k ≡ 0 → last_text s (take n l) ≡ []
   unfolding last_text
-  no_text s z = let y : n ≡ 0 = omega arith in rw y
+  no_text_lem s z = let y : n ≡ 0 = omega arith in rw y
 
   some_text : (s : Sheet) → length l ≡ line_room → (k ≡ 0 → ⊥) → last_text s (take n l) ≡ sheet_text s (spelled (take k l))
   unfolding last_text
@@ -387,7 +387,7 @@ module _ (l : List ℕ) (n k : ℕ) (e : k ≡ min n line_room) where
 
   pub last_none : (s : Sheet) (o : List ℕ) (a : ℕ) → k ≡ 0 → a ≤ 18446744073709551615 → length o ≤ 18446744073709551615
       → Ends s (take n l) o a o a
-  last_none s o a z x y = record { put = rw (no_text s z) (put_none o a x y); short = rw (no_text s z) (omega arith) }
+  last_none s o a z x y = record { put = rw (no_text_lem s z) (put_none o a x y); short = rw (no_text_lem s z) (omega arith) }
 
   pub last_some : {s : Sheet} {o o₁ : List ℕ} {a : ℕ} {st : Stepped} → length l ≡ line_room → (k ≡ 0 → ⊥)
       → Answers s (spelled (take k l)) o a o₁ st → Ends s (take n l) o a o₁ st.at

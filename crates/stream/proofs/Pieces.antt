@@ -64,9 +64,9 @@ pub held_feed : (h : List ℕ) → held_after_piece h (10 ∷ []) ≡ []
 unfolding held_after_piece
 held_feed h = refl
 
-pub line_feed : (l h : List ℕ) → line_after_piece l h (10 ∷ []) ≡ l
+pub line_feed_lem : (l h : List ℕ) → line_after_piece l h (10 ∷ []) ≡ l
 unfolding line_after_piece
-line_feed l h = refl
+line_feed_lem l h = refl
 
 pub used_feed : (room : ℕ) (s : Sheet) (h : List ℕ) (at : ℕ) (u : List ℕ)
     → used_in_line room s h at (10 ∷ u) ≡ 1 + used_of room (sheet_next s (spelled h)) [] (at + length (sheet_text s (spelled h))) u

@@ -1,5 +1,7 @@
 // A script that comes in pieces of any size: each piece is answered as far as it goes, and the start of a line whose feed has not come
 // yet is held in a lent line.
+#![tactic(auto)]
+
 ghost use Rattle.std.specs.Prelude.{◌≡◌, leb, take, ◌+◌};
 ghost use Rattle.session.specs.Lines.{spelled};
 ghost use Rattle.session.specs.Answering.{most_text, Answers};
@@ -16,7 +18,7 @@ pub const LINE_ROOM: usize = 4097;
 const MOST_TEXT: usize = 2700;
 
 // A sheet after a piece: how much of a line is held, the place after the answers, and how much of the piece is used.
-#[derive(Drop)]
+#[derive(Clone, Copy)]
 pub struct Fed {
     pub sheet: Sheet,
     pub held: usize,
@@ -25,7 +27,7 @@ pub struct Fed {
 }
 
 // How much of a line is held after a run of its characters, and how many they are.
-#[derive(Drop)]
+#[derive(Clone, Copy)]
 struct Run {
     held: usize,
     used: usize,
@@ -166,7 +168,8 @@ pub fn last(sheet: Sheet, line: &[u8; LINE_ROOM], held: usize, out: &mut [u8], a
     ensures { Ends sheet (take held line.now) out.old at out.new result }
 {
     let n = text::smaller(held, LINE_ROOM);
-    if n == 0 {
+    let is_empty = n == 0;
+    if is_empty {
         return at;
     }
     let s = answer(sheet, line, n, out, at);

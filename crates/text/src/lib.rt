@@ -1,5 +1,7 @@
 // Text in a lent buffer: bytes, and numbers in decimal. A function puts its text at a place and gives the next place; what would lie past the buffer's
 // end is not put, but counted.
+#![tactic(auto)]
+
 ghost use Rattle.std.specs.Prelude.{◌≡◌, [], ◌∷◌, ◌<◌, ◌≤◌, min, length};
 ghost use Rattle.text.specs.Number.{digits_of, last_digit, pair};
 ghost use Rattle.text.specs.Put.{Put, Puts};
@@ -42,7 +44,8 @@ fn last_digit(n: u32) -> u8
 pub fn put_number(out: &mut [u8], at: usize, n: u32) -> usize
     ensures { Puts out.old at (digits_of n) 10 out.new result }
 {
-    if n < 10 {
+    let one_digit = n < 10;
+    if one_digit {
         return put_byte(out, at, last_digit(n));
     }
     let next = put_number(out, at, n / 10);

@@ -21,7 +21,7 @@ abbrev pub Laid : List ℕ → List ℕ → ℕ → Type 0
 Laid name places i = Collected 16 0 name places i (drop i name)
 
 pub laid_none : (name : List ℕ) → Laid name (replicate 16 0) 0
-laid_none name = record { same_size_lem = refl; count_fits = omega arith; together = refl; blank_after = refl }
+laid_none name = record { same_size = refl; count_fits = omega arith; together = refl; blank_after = refl }
 
 pub laid_more : (name places : List ℕ) (i : ℕ) → Laid name places i → i < length name → length name ≤ 16
     → Laid name (set places i (get_or name i 0)) (i + 1)

@@ -1,6 +1,8 @@
 // A workspace: a sheet with its checkpoints. A checkpoint (02: named stand) keeps the edits that stood under a name of 1 to 16 bytes, and
 // there are at most eight. A public method takes the workspace by value and asks nothing of its caller; list and fit do not change it,
 // the others give back the workspace that they leave. A refused call changes nothing.
+#![tactic(auto)]
+
 ghost use Rattle.std.specs.Prelude.{◌≡◌, ◌<◌, ◌≤◌, length, replicate};
 ghost use Rattle.reading.specs.Outcome.{number_of};
 ghost use Rattle.placing.specs.Focus.{focus_of};
@@ -21,7 +23,7 @@ mod names; // names of 1 to 16 bytes
 const MOST_CHECKPOINTS: usize = 8;
 
 // The first `len` of 16 places hold the name, the first `standing` of 64 groups of five words an edit each.
-#[derive(Drop)]
+#[derive(Clone, Copy)]
 pub struct Checkpoint {
     pub name: [u8; 16],
     pub len: usize,
@@ -30,7 +32,7 @@ pub struct Checkpoint {
 }
 
 // A sheet, and checkpoints in the first `count` of eight places.
-#[derive(Drop)]
+#[derive(Clone, Copy)]
 pub struct Workspace {
     pub sheet: Sheet,
     pub checkpoints: [Checkpoint; 8],
@@ -38,7 +40,7 @@ pub struct Workspace {
 }
 
 // How keep and return end.
-#[derive(Drop)]
+#[derive(Clone, Copy)]
 pub enum CheckpointAnswer {
     Accepted,
     Empty,
@@ -48,21 +50,21 @@ pub enum CheckpointAnswer {
 }
 
 // A workspace after keep or return.
-#[derive(Drop)]
+#[derive(Clone, Copy)]
 pub struct Checkpointed {
     pub answer: CheckpointAnswer,
     pub workspace: Workspace,
 }
 
 // A workspace after cut, orient or back.
-#[derive(Drop)]
+#[derive(Clone, Copy)]
 pub struct EditedWorkspace {
     pub answer: EditAnswer,
     pub workspace: Workspace,
 }
 
 // A workspace after load.
-#[derive(Drop)]
+#[derive(Clone, Copy)]
 pub struct LoadedWorkspace {
     pub answer: FocusAnswer,
     pub workspace: Workspace,
@@ -310,7 +312,8 @@ impl Workspace {
             return self.ends(CheckpointAnswer::BadName);
         }
         let at = self.place_of(name);
-        if MOST_CHECKPOINTS <= at {
+        let is_ninth = MOST_CHECKPOINTS <= at;
+        if is_ninth {
             return self.ends(CheckpointAnswer::NinthName);
         }
         let kept = self.keep_at(name, at);

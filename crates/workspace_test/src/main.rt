@@ -4,83 +4,80 @@
 // 6 list: the buffer's places in a byte. 7 fit: width, height, and the buffer's places in a byte. 9 orient: the number in a byte.
 // 10 keep, 11 return: the name's length in a byte, the name. Another code is taken for 7. Numbers are big-endian. Place i of a buffer
 // holds i + 1 before a call. No contract can say what is printed: that is held to `stdout`.
+#![tactic(auto)]
+
 ghost use Rattle.std.specs.Prelude.{◌≡◌, length};
 
-use libc::{STDIN_FILENO, STDOUT_FILENO};
 use numbers::io::ByteOrder;
 use reading::geometry::{OptionalSize, Size};
 use sheet::listing::{ListAnswer, ListHead};
+use std::io;
+use std::io::{ErrorKind, Read};
 use workspace::{Checkpointed, EditedWorkspace, LoadedWorkspace, Workspace};
 
-fn text(s: &[u8]) {
-    io::write_all(STDOUT_FILENO, s);
+fn text(rt: &impl Print, s: &str) -> io::Result<()> {
+    rt.print(s)
 }
 
 // A word and a number in decimal.
-fn number(word: &[u8], n: u32) {
-    text(word);
-    io::print_decimal(STDOUT_FILENO, n as u64);
+fn number(rt: &impl Print, word: &str, n: u32) -> io::Result<()> {
+    print!(rt; "{word}{n}")
 }
 
 // `ok`, or `no` and the number.
-fn print_number(n: u32) {
+fn print_number(rt: &impl Print, n: u32) -> io::Result<()> {
     if n == 0 {
-        text(b"ok\n");
+        text(rt, "ok\n")
     } else {
-        number(b"no ", n);
-        text(b"\n");
+        number(rt, "no ", n)?;
+        text(rt, "\n")
     }
 }
 
-fn after_edit(r: EditedWorkspace) -> Workspace {
+fn after_edit(rt: &impl Print, r: EditedWorkspace) -> io::Result<Workspace> {
     let answer = r.answer;
-    print_number(sheet::edits::edit_number(answer));
-    let w = r.workspace;
-    w
+    print_number(rt, sheet::edits::edit_number(answer))?;
+    Ok(r.workspace)
 }
 
-fn after_load(r: LoadedWorkspace) -> Workspace {
+fn after_load(rt: &impl Print, r: LoadedWorkspace) -> io::Result<Workspace> {
     let answer = r.answer;
-    print_number(placing::load::load_number(answer));
-    let w = r.workspace;
-    w
+    print_number(rt, placing::load::load_number(answer))?;
+    Ok(r.workspace)
 }
 
-fn after_checkpoint(r: Checkpointed) -> Workspace {
+fn after_checkpoint(rt: &impl Print, r: Checkpointed) -> io::Result<Workspace> {
     let answer = r.answer;
-    print_number(workspace::checkpoint_number(answer));
-    let w = r.workspace;
-    w
+    print_number(rt, workspace::checkpoint_number(answer))?;
+    Ok(r.workspace)
 }
 
-fn print_head(l: ListHead) {
+fn print_head(rt: &impl Print, l: ListHead) -> io::Result<()> {
     let frame = l.frame;
     let mode = l.mode;
     let origin = l.origin;
-    number(b"frame ", frame.width);
-    number(b" ", frame.height);
-    number(b" points ", (l.count % 64) as u32);
-    number(b" primary ", (l.index % 64) as u32);
-    number(b" mode ", reading::focus::mode_number(mode));
-    number(b" origin ", placing::load::origin_number(origin));
+    number(rt, "frame ", frame.width)?;
+    number(rt, " ", frame.height)?;
+    number(rt, " points ", (l.count % 64) as u32)?;
+    number(rt, " primary ", (l.index % 64) as u32)?;
+    number(rt, " mode ", reading::focus::mode_number(mode))?;
+    number(rt, " origin ", placing::load::origin_number(origin))
 }
 
-fn print_list(a: ListAnswer) {
+fn print_list(rt: &impl Print, a: ListAnswer) -> io::Result<()> {
     match a {
-        ListAnswer::Listed(l) => print_head(l),
-        _ => number(b"no ", sheet::listing::list_number(a)),
+        ListAnswer::Listed(l) => print_head(rt, l),
+        _ => number(rt, "no ", sheet::listing::list_number(a)),
     }
 }
 
 // The buffer's numbers, on the answer's line.
-fn print_buffer(out: &[u32]) {
-    text(b" |");
-    let mut i: usize = 0;
-    while i < out.len() {
-        number(b" ", out[i]);
-        i += 1;
+fn print_buffer(rt: &impl Print, out: &[u32]) -> io::Result<()> {
+    text(rt, " |")?;
+    for n in out {
+        number(rt, " ", *n)?;
     }
-    text(b"\n");
+    text(rt, "\n")
 }
 
 // 256 places, of which place i holds i + 1.
@@ -88,10 +85,8 @@ fn places() -> [u32; 256]
     ensures { 256 ≡ length result }
 {
     let mut p = [0u32; 256];
-    let mut i: usize = 0;
-    while i < 256 {
+    for i in 0..256usize {
         p[i] = (i + 1) as u32;
-        i += 1;
     }
     p
 }
@@ -114,7 +109,7 @@ fn given_at(s: &[u8], at: usize, given: bool) -> OptionalSize {
     OptionalSize::Given(size_at(s, at))
 }
 
-fn load(workspace: Workspace, call: &[u8]) -> Workspace {
+fn load(rt: &impl Print, workspace: Workspace, call: &[u8]) -> io::Result<Workspace> {
     let flags = numbers::io::u8_at(call, 1);
     let raw = given_at(call, 2, flags % 2 == 1);
     let picture = given_at(call, 10, flags / 2 % 2 == 1);
@@ -123,20 +118,20 @@ fn load(workspace: Workspace, call: &[u8]) -> Workspace {
     let rest = numbers::io::tail(call, 21);
     let model = numbers::io::head(rest, model_len);
     let block = numbers::io::head(numbers::io::tail(rest, model_len), block_len);
-    after_load(workspace.load(block, raw, picture, model))
+    after_load(rt, workspace.load(block, raw, picture, model))
 }
 
-fn cut(workspace: Workspace, call: &[u8]) -> Workspace {
+fn cut(rt: &impl Print, workspace: Workspace, call: &[u8]) -> io::Result<Workspace> {
     let left = number_at(call, 1);
     let top = number_at(call, 5);
     let width = number_at(call, 9);
     let height = number_at(call, 13);
-    after_edit(workspace.cut(left, top, width, height))
+    after_edit(rt, workspace.cut(left, top, width, height))
 }
 
-fn orient(workspace: Workspace, call: &[u8]) -> Workspace {
+fn orient(rt: &impl Print, workspace: Workspace, call: &[u8]) -> io::Result<Workspace> {
     let number = numbers::io::u8_at(call, 1) as u32;
-    after_edit(workspace.orient(number))
+    after_edit(rt, workspace.orient(number))
 }
 
 // The name of a keep or a return.
@@ -145,55 +140,55 @@ fn name_in<'a>(call: &'a [u8]) -> &'a [u8] {
     numbers::io::head(numbers::io::tail(call, 2), len)
 }
 
-fn list_into(workspace: Workspace, out: &mut [u32]) {
-    print_list(workspace.list(out));
-    print_buffer(out);
+fn list_into(rt: &impl Print, workspace: Workspace, out: &mut [u32]) -> io::Result<()> {
+    print_list(rt, workspace.list(out))?;
+    print_buffer(rt, out)
 }
 
-fn fit_into(workspace: Workspace, size: Size, out: &mut [u32]) {
-    print_list(workspace.fit(size, out));
-    print_buffer(out);
+fn fit_into(rt: &impl Print, workspace: Workspace, size: Size, out: &mut [u32]) -> io::Result<()> {
+    print_list(rt, workspace.fit(size, out))?;
+    print_buffer(rt, out)
 }
 
-fn list(workspace: Workspace, call: &[u8], out: &mut [u32])
+fn list(rt: &impl Print, workspace: Workspace, call: &[u8], out: &mut [u32]) -> io::Result<()>
     requires { length out.old ≡ 256 }
 {
     let n = numbers::io::u8_at(call, 1) as usize;
-    list_into(workspace, &mut out[..n]);
+    list_into(rt, workspace, &mut out[..n])
 }
 
-fn fit(workspace: Workspace, call: &[u8], out: &mut [u32])
+fn fit(rt: &impl Print, workspace: Workspace, call: &[u8], out: &mut [u32]) -> io::Result<()>
     requires { length out.old ≡ 256 }
 {
     let n = numbers::io::u8_at(call, 9) as usize;
     let size = size_at(call, 1);
-    fit_into(workspace, size, &mut out[..n]);
+    fit_into(rt, workspace, size, &mut out[..n])
 }
 
 // A list or a fit on a buffer of its own.
-fn show(workspace: Workspace, call: &[u8], code: u8) {
+fn show(rt: &impl Print, workspace: Workspace, call: &[u8], code: u8) -> io::Result<()> {
     let mut space = places();
     let out: &mut [u32] = &mut space;
     if code == 6 {
-        list(workspace, call, out);
+        list(rt, workspace, call, out)
     } else {
-        fit(workspace, call, out);
+        fit(rt, workspace, call, out)
     }
 }
 
 // Answers one call, and gives the workspace that it leaves.
-fn answer(workspace: Workspace, call: &[u8]) -> Workspace {
+fn answer(rt: &impl Print, workspace: Workspace, call: &[u8]) -> io::Result<Workspace> {
     let code = numbers::io::u8_at(call, 0);
     match code {
-        1 => load(workspace, call),
-        2 => cut(workspace, call),
-        5 => after_edit(workspace.back()),
-        9 => orient(workspace, call),
-        10 => after_checkpoint(workspace.keep(name_in(call))),
-        11 => after_checkpoint(workspace.return_to(name_in(call))),
+        1 => load(rt, workspace, call),
+        2 => cut(rt, workspace, call),
+        5 => after_edit(rt, workspace.back()),
+        9 => orient(rt, workspace, call),
+        10 => after_checkpoint(rt, workspace.keep(name_in(call))),
+        11 => after_checkpoint(rt, workspace.return_to(name_in(call))),
         _ => {
-            show(workspace, call, code);
-            workspace
+            show(rt, workspace, call, code)?;
+            Ok(workspace)
         }
     }
 }
@@ -204,16 +199,27 @@ fn space() -> [u8; 512]
     [0; 512]
 }
 
-fn main() {
+// Whether there is one more call: reads it. The start of one that the input's end cuts off is none.
+fn is_read(from: &mut impl Read, call: &mut [u8]) -> io::Result<bool> {
+    match from.read_exact(call) {
+        Ok(()) => Ok(true),
+        Err(e) => {
+            if e.kind() == ErrorKind::UnexpectedEof {
+                return Ok(false);
+            }
+            Err(e)
+        }
+    }
+}
+
+fn main(rt: HostRuntime) -> io::Result<()> {
     let mut call = space();
     let mut workspace = Workspace::new();
-    let mut rounds = u64::MAX;
-    while rounds > 0 {
-        let n = io::read_full(STDIN_FILENO, &mut call);
-        if n < 512 {
-            return;
+    for _ in 0..u64::MAX {
+        if !is_read(&mut rt.stdin(), &mut call)? {
+            return Ok(());
         }
-        workspace = answer(workspace, &call);
-        rounds -= 1;
+        workspace = answer(&rt, workspace, &call)?;
     }
+    Ok(())
 }

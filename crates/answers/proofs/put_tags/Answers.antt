@@ -1,0 +1,13 @@
+-- `put_tags`: the count, the tags and the feed, joined. Assumes nothing.
+use Rattle.text.proofs.Laws.{◌▹◌}
+use Rattle.answers.specs.Answers.{tags_word, tags_text}
+use Rattle.answers.proofs.Lines.{numbered, ended}
+use Rattle.answers.proofs.put_tags.Goals as goal
+
+pub returns : goal.returns
+unfolding tags_text
+returns c =
+    let few = c.smaller-n.ensures in
+    numbered tags_word few c.put_pair-a.ensures
+    ▹ rw few at c.put_each-b.ensures
+    ▹ ended c.put_byte.ensures

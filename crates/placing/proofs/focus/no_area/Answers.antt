@@ -1,0 +1,12 @@
+-- `no_area` meets its contract: each arm of the test is a case of the definition. Assumes nothing.
+use borrow.Author.Tests.{eq-eqb, ne_eqb}
+use Rattle.placing.specs.Fit.{no_area}
+use Rattle.placing.proofs.focus.no_area.Goals as goal
+
+pub returns-then-size-eq0 : goal.returns-then-size-eq0
+unfolding no_area
+returns-then-size-eq0 c = simp (eq-eqb _ _ c.if-size-eq0.true)
+
+pub returns-else-size-eq0 : goal.returns-else-size-eq0
+unfolding no_area
+returns-else-size-eq0 c = simp (ne_eqb _ _ c.if-size-eq0.false)

@@ -1,0 +1,12 @@
+-- `nikon::trim_end`: the loop's invariant is that trimming the front trims the whole. Assumes nothing.
+use Prim.Native.Nat.{◌≤◌}
+use mathlib.Core.Path.{◌≡◌}
+use lib.ListN.{length, take}
+use Rattle.reading.specs.Values.{trim_end}
+use Rattle.reading.proofs.nikon.trim_end.Given as goal
+
+abbrev pub invariant-loop-n : goal.invariant-loop-n
+invariant-loop-n l = (l.n ≤ length l.s) × (trim_end l.s ≡ trim_end (take l.n l.s))
+
+abbrev pub decreases-loop-n : goal.decreases-loop-n
+decreases-loop-n l = l.n
