@@ -1,4 +1,4 @@
-//! Links libfocuspoints.a, which `rt staticlib focuspoints` writes. FOCUSPOINTS_LIB_DIR is the folder where it lies; without it that is
+//! Links libfocuspoints.a, which `bindings/build` writes. FOCUSPOINTS_LIB_DIR is the folder where it lies; without it that is
 //! target/staticlib of the repository.
 
 use std::env;
@@ -15,7 +15,7 @@ fn main() {
     let library = dir.join("libfocuspoints.a");
     if !library.is_file() {
         panic!(
-            "{} is not there: run `rt staticlib focuspoints`, or set FOCUSPOINTS_LIB_DIR",
+            "{} is not there: run bindings/build, or set FOCUSPOINTS_LIB_DIR",
             library.display()
         );
     }

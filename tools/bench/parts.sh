@@ -14,7 +14,7 @@ needs() {
 # Builds the library and the bench program for release. Its functions start at multiples of 64 bytes: the same plain list, 32 bytes off
 # by chance, took up to a quarter longer behind turns.
 build() {
-  rt staticlib focuspoints >/dev/null
+  bindings/build
   RUSTFLAGS="-C llvm-args=-align-all-functions=6" cargo build --release --offline -q --manifest-path tools/bench/Cargo.toml
 }
 

@@ -20,7 +20,7 @@ USE = re.compile(r"^\s*(?:pub\s+)?use\s+([^\s{]+?)\.?\{([^}]*)\}", re.M)
 # spelled by their sense
 SPECIAL = {"getD-sets-at": "get_or_sets_at", "getD-sets-below": "get_or_sets_below"}
 # fields of records, which may share a definition's name
-FIELDS = {"sheet-after", "well-formed"}
+FIELDS = {"sheet-after", "well-formed", "same_size"}
 # types that began with a small letter
 TYPES = {"atMost39": "AtMost39"}
 
@@ -38,8 +38,14 @@ def snake(name):
 def shared_files():
     """The files of specs/ and the lemma files of proofs/: not the folder of a single function's proof."""
     for path in sorted(glob.glob("crates/*/specs/**/*.antt", recursive=True) + glob.glob("crates/*/proofs/**/*.antt", recursive=True)):
-        if os.path.basename(path) not in ("Proof.antt", "Answers.antt", "Invariants.antt"):
+        shared = path.count("/") == 3 or "/specs/" in path
+        if shared or os.path.basename(path) not in ("Proof.antt", "Answers.antt", "Invariants.antt"):
             yield path
+
+
+def built(path):
+    """Whether a file lies in a crate's out/, which holds what the toolchain built."""
+    return path.split("/")[2] == "out"
 
 
 def declared():
@@ -102,7 +108,7 @@ def main():
             print("together:", new, olds, [sorted(names[old]) for old in olds])
         return
     camel = {old: new for old, new in turned.items() if re.search(r"[a-z0-9][A-Z]", old)}
-    for path in sorted(glob.glob("crates/**/*.antt", recursive=True)):
+    for path in sorted(path for path in glob.glob("crates/**/*.antt", recursive=True) if not built(path)):
         text = open(path, encoding="utf-8").read()
         new = turn_line(text, turned, foreign(text))
         if new != text:

@@ -16,10 +16,16 @@ PATIENCE = 300
 
 def named(words, usual):
     """The full path of the program that the first of the words names; without words, of the built one with the usual name."""
-    program = os.path.abspath(words[0] if words else os.path.join(stored.ROOT, "target", "bin", usual))
+    program = os.path.abspath(words[0] if words else built(usual))
     if not os.access(program, os.X_OK):
         sys.exit("no program %s" % program)
     return program
+
+
+def built(name):
+    """Where the program of a crate is built."""
+    done = subprocess.run([os.path.join(stored.ROOT, "tools", "program"), name], check=True, stdout=subprocess.PIPE, text=True)
+    return done.stdout.rstrip("\n")
 
 
 def from_file(program, data):

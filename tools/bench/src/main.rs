@@ -1,6 +1,6 @@
 //! Times one load on both sides, a block's contents, a listing behind edits and calls on a sheet or a workspace beside plain Rust, and the
 //! lines that focusdesk answers in a second. Prints tables in Markdown.
-//! Usage: bench REPOSITORY, the folder that has crates/, target/bin/focusdesk and target/bin/state_bench. With a KIND of loads behind it,
+//! Usage: bench REPOSITORY, the folder that has crates/ and tools/program, with focusdesk and state_bench built. With a KIND of loads behind it,
 //! which is named, recorded or refused, it times nothing: it answers those loads and prints how many calls that took, for tools/bench/count.
 
 mod blocks;
@@ -12,7 +12,7 @@ use std::env;
 use std::fs::{self, File};
 use std::hint::black_box;
 use std::io::Write;
-use std::path::Path;
+use std::path::{Path, PathBuf};
 use std::process::{Command, Stdio};
 use std::time::{Duration, Instant};
 
@@ -23,6 +23,13 @@ use states::NO_BOX;
 
 const ROUNDS: usize = 7;
 const PASSES: usize = 20;
+
+/// Where the program of a crate is built.
+fn built(root: &Path, name: &str) -> PathBuf {
+    let said = Command::new(root.join("tools/program")).arg(name).output().unwrap();
+    assert!(said.status.success(), "no program {name}");
+    PathBuf::from(String::from_utf8(said.stdout).unwrap().trim_end())
+}
 
 /// The shortest time of some rounds.
 fn shortest(mut work: impl FnMut()) -> Duration {
@@ -147,7 +154,7 @@ fn plain_list_time(sheet: states::Sheet, edits: &[Edit]) -> f64 {
 
 /// Lists behind equal edits: by the plain loop, by state_bench on a sheet, and by a line of focusdesk.
 fn lists_table(root: &Path, load: &[u8], sheet: states::Sheet) {
-    let [focusdesk, state_bench] = ["focusdesk", "state_bench"].map(|name| root.join("target/bin").join(name));
+    let [focusdesk, state_bench] = ["focusdesk", "state_bench"].map(|name| built(root, name));
     let kinds = [
         ("orientation 6", sheet.turn_or_cut(false)),
         ("orientation 2", Edit::Orient(Orientation::FlipHorizontal)),
@@ -214,7 +221,7 @@ fn state_row(program: &Path, load: &[u8], sheet: states::Sheet, (kind, name, cut
 
 /// Calls on a sheet and on a workspace, each kind that state_bench has.
 fn states_table(root: &Path, load: &[u8], sheet: states::Sheet) {
-    let program = root.join("target/bin/state_bench");
+    let program = built(root, "state_bench");
     let [small, large] = states::sizes();
     println!("| call, the state handed on by value | plain Rust, calls apart, ns | plain Rust, calls as the compiler likes, ns | here, ns | times the first | times the second |");
     println!("|---|---|---|---|---|---|");
@@ -226,7 +233,7 @@ fn states_table(root: &Path, load: &[u8], sheet: states::Sheet) {
 fn main() {
     let root = env::args().nth(1).expect("usage: bench REPOSITORY [KIND]");
     let root = Path::new(&root);
-    let program = root.join("target/bin/focusdesk");
+    let program = built(root, "focusdesk");
     let all = stored(&fs::read(root.join("crates/placing_test/stdin")).unwrap());
     let of = |wanted: Option<FocusOrigin>| -> Vec<Load> {
         let fits = |load: &&Load| match original(load) {
