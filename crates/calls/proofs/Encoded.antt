@@ -1,6 +1,7 @@
 -- What is encoded is read back, and is bytes. The idea: the code, the flags and the numbers stand at fixed places, so what is read
 -- there computes; a number's four bytes give the number back, and the model and the block lie between them and the check. Assumes
 -- nothing.
+use Rattle.std.specs.Prelude.{Option, Some, None}
 use Prim.Native.Nat.{ℕ, zero, suc, ◌<◌, ◌≤◌, ◌+◌, ◌*◌, ◌-◌, ◌/◌, ◌%◌}
 use mathlib.Core.Bool.{true}
 use mathlib.Core.List.{List, [], ◌∷◌, ◌++◌, append_assoc}
@@ -14,8 +15,6 @@ use Rattle.numbers.specs.Numbers.{u16_of, u32_of}
 use Rattle.numbers.specs.declared.io.ByteOrder.TheVariants.{Big}
 use Rattle.reading.specs.Outcome.{Outcome, accepted}
 use Rattle.reading.specs.declared.geometry.Size.{Size}
-use Rattle.reading.specs.declared.geometry.OptionalSize.{OptionalSize}
-use Rattle.reading.specs.declared.geometry.OptionalSize.TheVariants.{Missing, Given}
 use Rattle.hex_lines.specs.Hex.{sum, checks}
 use Rattle.hex_lines.specs.Laws.{AreBytes}
 use Rattle.calls.specs.Format.{LineCall, line_load, line_cut, line_back, line_list, line_fit, line_contents, line_orient, of_length, sides_at, flags, model_length, sides_agree, optional, well_formed_load, load_call, orient_call, by_code, call_of, model_part, block_part, contents_part}
@@ -110,35 +109,35 @@ module _ (k : List ℕ) where
 
 -- ---- a load
 -- its flags and sizes give its sizes back
-sizes_agree : (o : OptionalSize) → sides_agree (is_given o) (sides_of o) ≡ true
+sizes_agree : (o : Option Size) → sides_agree (is_given o) (sides_of o) ≡ true
 unfolding sides_agree
-sizes_agree Missing = refl
-sizes_agree (Given s) = refl
+sizes_agree None = refl
+sizes_agree (Some s) = refl
 
-size_again : (o : OptionalSize) → optional (is_given o) (sides_of o) ≡ o
+size_again : (o : Option Size) → optional (is_given o) (sides_of o) ≡ o
 unfolding optional
-size_again Missing = refl
-size_again (Given s) = refl
+size_again None = refl
+size_again (Some s) = refl
 
-flags_few : (o p : OptionalSize) → leb (flag_byte o p) 3 ≡ true
-flags_few Missing Missing = refl
-flags_few Missing (Given t) = refl
-flags_few (Given s) Missing = refl
-flags_few (Given s) (Given t) = refl
+flags_few : (o p : Option Size) → leb (flag_byte o p) 3 ≡ true
+flags_few None None = refl
+flags_few None (Some t) = refl
+flags_few (Some s) None = refl
+flags_few (Some s) (Some t) = refl
 
-flag_raw : (o p : OptionalSize) → eqb (flag_byte o p % 2) 1 ≡ is_given o
-flag_raw Missing Missing = refl
-flag_raw Missing (Given t) = refl
-flag_raw (Given s) Missing = refl
-flag_raw (Given s) (Given t) = refl
+flag_raw : (o p : Option Size) → eqb (flag_byte o p % 2) 1 ≡ is_given o
+flag_raw None None = refl
+flag_raw None (Some t) = refl
+flag_raw (Some s) None = refl
+flag_raw (Some s) (Some t) = refl
 
-flag_picture : (o p : OptionalSize) → eqb (flag_byte o p / 2 % 2) 1 ≡ is_given p
-flag_picture Missing Missing = refl
-flag_picture Missing (Given t) = refl
-flag_picture (Given s) Missing = refl
-flag_picture (Given s) (Given t) = refl
+flag_picture : (o p : Option Size) → eqb (flag_byte o p / 2 % 2) 1 ≡ is_given p
+flag_picture None None = refl
+flag_picture None (Some t) = refl
+flag_picture (Some s) None = refl
+flag_picture (Some s) (Some t) = refl
 
-load_of : (b : List ℕ) (o p : OptionalSize) → 20 + model_length b ≤ length b → flags b ≡ flag_byte o p → sides_at b 2 ≡ sides_of o → sides_at b 10 ≡ sides_of p
+load_of : (b : List ℕ) (o p : Option Size) → 20 + model_length b ≤ length b → flags b ≡ flag_byte o p → sides_at b 2 ≡ sides_of o → sides_at b 10 ≡ sides_of p
     → load_call b ≡ accepted (line_load o p)
 unfolding load_call well_formed_load
 load_of b o p l f s t =
@@ -199,11 +198,11 @@ module _ (f : ℕ) (s t : Size) (m k : List ℕ) (c : ℕ) where
   unfolding four_bytes
   second_size h = sym (size_back line 10 t (length m ∷ [] ++ m ++ k ++ c ∷ []) h refl)
 
-  line_load_lem : (o p : OptionalSize) → f ≡ flag_byte o p → s ≡ sides_of o → t ≡ sides_of p → SizeNumbers s → SizeNumbers t → load_call line ≡ accepted (line_load o p)
+  line_load_lem : (o p : Option Size) → f ≡ flag_byte o p → s ≡ sides_of o → t ≡ sides_of p → SizeNumbers s → SizeNumbers t → load_call line ≡ accepted (line_load o p)
   line_load_lem o p ef es et hs ht =
       load_of line o p (omega (arith, model_length_lem, line_long)) (the_flags ∙ ef) (first_size hs ∙ es) (second_size ht ∙ et)
 
-load_back : (o p : OptionalSize) (m k : List ℕ) → SizeNumbers (sides_of o) → SizeNumbers (sides_of p)
+load_back : (o p : Option Size) (m k : List ℕ) → SizeNumbers (sides_of o) → SizeNumbers (sides_of p)
     → ReadBack (line_load o p) m k (encoded (line_load o p) m k)
 unfolding body checked by_code
 load_back o p m k ho hp =

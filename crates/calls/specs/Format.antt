@@ -1,21 +1,19 @@
 -- 01, "After the sheet", with 02's code 09: the call that the bytes of a line spell. The first byte is the code, the last one the check. "Numbers
 -- big-endian."
-use Rattle.std.specs.Prelude.{ℕ, ◌+◌, ◌-◌, ◌/◌, ◌%◌, Bool, ◌&&◌, ◌||◌, cond, List, [], leb, eqb, length, get_or, take, drop}
+use Rattle.std.specs.Prelude.{ℕ, ◌+◌, ◌-◌, ◌/◌, ◌%◌, Bool, ◌&&◌, ◌||◌, cond, List, [], leb, eqb, length, get_or, take, drop, Option, Some, None}
 use Rattle.numbers.specs.Numbers.{u32_of}
 use Rattle.numbers.specs.declared.io.ByteOrder.TheVariants.{Big}
 use Rattle.reading.specs.Outcome.{Outcome, refused, accepted}
 use Rattle.reading.specs.declared.geometry.Size.{Size}
-use Rattle.reading.specs.declared.geometry.OptionalSize.{OptionalSize}
-use Rattle.reading.specs.declared.geometry.OptionalSize.TheVariants.{Missing, Given}
 use Rattle.hex_lines.specs.Hex.{checks}
 use Rattle.calls.specs.declared.Call.{Call}
-use Rattle.calls.specs.declared.Call.TheVariants.{Malformed, Load, Cut, Back, ListPoints, Fit, Contents, Orient}
+use Rattle.calls.specs.declared.Call.TheVariants.{Load, Cut, Back, ListPoints, Fit, Contents, Orient}
 
 -- ---- a call as a line's bytes spell it. What a load and contents are given besides, model and block, are parts of the bytes: see
 -- model_part, block_part and contents_part
 pub data LineCall : Type 0 where
   -- the raw size and the picture size
-  line_load : OptionalSize → OptionalSize → LineCall
+  line_load : Option Size → Option Size → LineCall
   -- left, top, width and height
   line_cut : ℕ → ℕ → ℕ → ℕ → LineCall
   line_back : LineCall
@@ -27,15 +25,15 @@ pub data LineCall : Type 0 where
   line_orient : ℕ → LineCall
 
 -- what the code's answer means in 01's numbers: 14, "call line malformed", or the call
-abbrev pub call_means : Call → Outcome LineCall
-call_means Malformed = refused 14
-call_means (Load raw picture) = accepted (line_load raw picture)
-call_means (Cut left top width height) = accepted (line_cut left top width height)
-call_means Back = accepted line_back
-call_means ListPoints = accepted line_list
-call_means (Fit box) = accepted (line_fit box)
-call_means Contents = accepted line_contents
-call_means (Orient number) = accepted (line_orient number)
+abbrev pub call_means : Option Call → Outcome LineCall
+call_means None = refused 14
+call_means (Some (Load raw picture)) = accepted (line_load raw picture)
+call_means (Some (Cut r)) = accepted (line_cut r.left r.top r.width r.height)
+call_means (Some Back) = accepted line_back
+call_means (Some ListPoints) = accepted line_list
+call_means (Some (Fit box)) = accepted (line_fit box)
+call_means (Some Contents) = accepted line_contents
+call_means (Some (Orient number)) = accepted (line_orient number)
 
 -- ---- numbers
 -- the 32-bit number at a place
@@ -70,8 +68,8 @@ block_part b = take (length b - (20 + model_length b)) (drop (19 + model_length 
 unfoldable pub sides_agree : Bool → Size → Bool
 sides_agree given s = given || (eqb s.width 0 && eqb s.height 0)
 
-unfoldable pub optional : Bool → Size → OptionalSize
-optional given s = cond given (Given s) Missing
+unfoldable pub optional : Bool → Size → Option Size
+optional given s = cond given (Some s) None
 
 -- not "a wrong length, a flag byte above 3, or a missing size whose sides aren't 0"
 unfoldable pub well_formed_load : List ℕ → Bool

@@ -1,10 +1,9 @@
 -- The format the other way round: how a call is encoded in bytes. The calls that are read are exactly those that are encoded, which
 -- proofs/Encoded.antt (what is encoded is read back, and is bytes) and proofs/Accepted.antt (what is read was encoded so) prove.
+use Rattle.std.specs.Prelude.{Option, Some, None}
 use Rattle.std.specs.Prelude.{ℕ, ◌+◌, ◌-◌, ◌/◌, ◌%◌, ◌<◌, Bool, true, false, cond, List, [], ◌∷◌, ◌++◌, ◌≡◌, length}
 use Rattle.reading.specs.Outcome.{Outcome, refused, accepted}
 use Rattle.reading.specs.declared.geometry.Size.{Size}
-use Rattle.reading.specs.declared.geometry.OptionalSize.{OptionalSize}
-use Rattle.reading.specs.declared.geometry.OptionalSize.TheVariants.{Missing, Given}
 use Rattle.hex_lines.specs.Hex.{sum}
 use Rattle.hex_lines.specs.Laws.{AreBytes}
 use Rattle.calls.specs.Format.{LineCall, line_load, line_cut, line_back, line_list, line_fit, line_contents, line_orient, call_of, model_given, block_given}
@@ -17,18 +16,18 @@ four_bytes n = n / 16777216 % 256 ∷ n / 65536 % 256 ∷ n / 256 % 256 ∷ n % 
 abbrev pub size_bytes : Size → List ℕ
 size_bytes s = four_bytes s.width ++ four_bytes s.height
 
-abbrev pub is_given : OptionalSize → Bool
-is_given Missing = false
-is_given (Given s) = true
+abbrev pub is_given : Option Size → Bool
+is_given None = false
+is_given (Some s) = true
 
 -- "flags: 1 raw, 2 picture"
-abbrev pub flag_byte : OptionalSize → OptionalSize → ℕ
+abbrev pub flag_byte : Option Size → Option Size → ℕ
 flag_byte raw picture = cond (is_given raw) 1 0 + cond (is_given picture) 2 0
 
 -- "sides, 0 if missing"
-abbrev pub sides_of : OptionalSize → Size
-sides_of Missing = record { width = 0; height = 0 }
-sides_of (Given s) = s
+abbrev pub sides_of : Option Size → Size
+sides_of None = record { width = 0; height = 0 }
+sides_of (Some s) = s
 
 -- the bytes before the check: the code, and what the call is given
 unfoldable pub body : LineCall → List ℕ → List ℕ → List ℕ

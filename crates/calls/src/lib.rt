@@ -1,27 +1,21 @@
 // The call that the bytes of a line spell, and the parts of the bytes that it is given.
 #![tactic(auto)]
 
-ghost use Rattle.std.specs.Prelude.{◌≡◌, ◌-◌, ◌<◌};
-ghost use Rattle.calls.specs.Format.{call_means, u32_at, sides_at, sides_agree, optional, model_length, well_formed_load, load_call, of_length, cut_call, fit_call, contents_call, orient_call, by_code, call_of, model_part, block_part, contents_part};
+ghost use Rattle.std.specs.Prelude.{◌≡◌, ◌-◌, ◌<◌, cond, get_or, Some, None};
+ghost use Rattle.calls.specs.Format.{call_means, u32_at, sides_at, sides_agree, optional, model_length, load_call, of_length, cut_call, fit_call, by_code, call_of, model_part, block_part, contents_part};
 
 use hex_lines::is_checked;
 use numbers::io::{ByteOrder, head, tail, u8_at, u32_of};
-use reading::geometry::{OptionalSize, Size};
+use reading::geometry::{Rectangle, Size};
 
-// How a line's bytes read; what a load or contents is given besides stands in the bytes, see model_part, block_part, contents_part.
-#[derive(Clone, Copy)]
+// A call as a line's bytes spell it; what a load or contents is given besides stands in the bytes, see model_part, block_part, contents_part.
+#[derive(Clone, Copy, PartialEq, Eq, Debug)]
 pub enum Call {
-    Malformed,
     Load {
-        raw: OptionalSize,
-        picture: OptionalSize,
+        raw: Option<Size>,
+        picture: Option<Size>,
     },
-    Cut {
-        left: u32,
-        top: u32,
-        width: u32,
-        height: u32,
-    },
+    Cut(Rectangle),
     Back,
     ListPoints,
     Fit {
@@ -33,12 +27,20 @@ pub enum Call {
     },
 }
 
-// `a` less `b`, 0 where `b` is more.
-fn less(a: usize, b: usize) -> usize
-    ensures { result ≡ a - b }
-{
-    if b <= a { a - b } else { 0 }
-}
+// The codes of the calls.
+const LOAD: u8 = 1;
+
+const CUT: u8 = 2;
+
+const BACK: u8 = 5;
+
+const LIST_POINTS: u8 = 6;
+
+const FIT: u8 = 7;
+
+const CONTENTS: u8 = 8;
+
+const ORIENT: u8 = 9;
 
 // The 32-bit number at `at`.
 fn u32_at(b: &[u8], at: usize) -> u32
@@ -48,6 +50,7 @@ fn u32_at(b: &[u8], at: usize) -> u32
 }
 
 // The width and the height at `at`.
+#[tactic(auto, using(crate::proofs::Laws::two_sides))]
 fn sides_at(b: &[u8], at: usize) -> Size
     ensures { result ≡ sides_at b.now at }
 {
@@ -56,144 +59,101 @@ fn sides_at(b: &[u8], at: usize) -> Size
     Size { width, height }
 }
 
-// Whether a size is given, or has sides 0.
-fn sides_agree(given: bool, s: Size) -> bool
-    ensures { result ≡ sides_agree given s }
-{
-    given || (s.width == 0 && s.height == 0)
-}
-
 // The length of a load's model.
 fn model_length(b: &[u8]) -> usize
     ensures { (result ≡ model_length b.now) × (result < 256) }
 {
-    u8_at(b, 18) as usize
+    usize::from(u8_at(b, 18))
 }
 
-// `s` where it is given.
-fn optional_size(given: bool, s: Size) -> OptionalSize
-    ensures { result ≡ optional given s }
+// A size of a load, given or missing; no load has a missing size whose sides are not 0.
+#[tactic(auto, unfolding(crate::specs::Format::sides_agree, crate::specs::Format::optional))]
+fn load_size(is_given: bool, s: Size) -> Option<Option<Size>>
+    ensures { result ≡ cond (sides_agree is_given s) (Some (optional is_given s)) None }
 {
-    if given {
-        return OptionalSize::Given(s);
+    if is_given {
+        return Some(Some(s));
     }
-    OptionalSize::Missing
-}
-
-// Whether the bytes have a load's length, flags and sizes.
-fn is_well_formed_load(b: &[u8]) -> bool
-    ensures { result ≡ well_formed_load b.now }
-{
-    let flags = u8_at(b, 1);
-    let model = model_length(b);
-    if b.len() < 20 + model {
-        return false;
-    }
-    if 3 < flags {
-        return false;
-    }
-    if !sides_agree(flags % 2 == 1, sides_at(b, 2)) {
-        return false;
-    }
-    sides_agree(flags / 2 % 2 == 1, sides_at(b, 10))
+    (s.width == 0 && s.height == 0).then_some(None)
 }
 
 // A load, where the bytes spell one.
-fn load_call(b: &[u8]) -> Call
+#[tactic(auto, unfolding(crate::specs::Format::load_call, crate::specs::Format::well_formed_load))]
+fn load_call(b: &[u8]) -> Option<Call>
     ensures { call_means result ≡ load_call b.now }
 {
-    if !is_well_formed_load(b) {
-        return Call::Malformed;
-    }
     let flags = u8_at(b, 1);
-    let raw = optional_size(flags % 2 == 1, sides_at(b, 2));
-    let picture = optional_size(flags / 2 % 2 == 1, sides_at(b, 10));
-    Call::Load { raw, picture }
+    let is_whole = 20 + model_length(b) <= b.len() && flags <= 3;
+    if !is_whole {
+        return None;
+    }
+    let raw = load_size(flags % 2 == 1, sides_at(b, 2))?;
+    let picture = load_size(flags / 2 % 2 == 1, sides_at(b, 10))?;
+    Some(Call::Load { raw, picture })
 }
 
 // `call`, where there are `n` bytes.
-fn of_length(n: usize, b: &[u8], call: Call) -> Call
-    ensures { call_means result ≡ of_length n b.now (call_means call) }
+fn of_length(n: usize, b: &[u8], call: Call) -> Option<Call>
+    ensures { call_means result ≡ of_length n b.now (call_means (Some call)) }
 {
-    if b.len() == n {
-        return call;
-    }
-    Call::Malformed
+    (b.len() == n).then_some(call)
 }
 
 // A cut, where the bytes spell one.
-fn cut_call(b: &[u8]) -> Call
+#[tactic(auto, unfolding(crate::specs::Format::cut_call))]
+fn cut_call(b: &[u8]) -> Option<Call>
     ensures { call_means result ≡ cut_call b.now }
 {
-    let left = u32_at(b, 1);
-    let top = u32_at(b, 5);
-    let width = u32_at(b, 9);
-    let height = u32_at(b, 13);
-    of_length(
-        18,
-        b,
-        Call::Cut {
-            left,
-            top,
-            width,
-            height,
-        },
-    )
+    let to = Rectangle {
+        left: u32_at(b, 1),
+        top: u32_at(b, 5),
+        width: u32_at(b, 9),
+        height: u32_at(b, 13),
+    };
+    of_length(18, b, Call::Cut(to))
 }
 
 // A fit, where the bytes spell one.
-fn fit_call(b: &[u8]) -> Call
+#[tactic(auto, unfolding(crate::specs::Format::fit_call))]
+fn fit_call(b: &[u8]) -> Option<Call>
     ensures { call_means result ≡ fit_call b.now }
 {
     let size = sides_at(b, 1);
     of_length(10, b, Call::Fit { size })
 }
 
-// Contents, where there are a code and a check.
-fn contents_call(b: &[u8]) -> Call
-    ensures { call_means result ≡ contents_call b.now }
+// The call that the bytes spell by their code, the first of them.
+#[tactic(auto, unfolding(crate::specs::Format::by_code, crate::specs::Format::contents_call, crate::specs::Format::orient_call))]
+fn by_code(b: &[u8]) -> Option<Call>
+    ensures { call_means result ≡ by_code (get_or b.now 0 0) b.now }
 {
-    if 2 <= b.len() {
-        return Call::Contents;
-    }
-    Call::Malformed
-}
-
-// An orientation, where the bytes spell one.
-fn orient_call(b: &[u8]) -> Call
-    ensures { call_means result ≡ orient_call b.now }
-{
-    let number = u8_at(b, 1) as u32;
-    of_length(3, b, Call::Orient { number })
-}
-
-// The call of a code.
-fn by_code(code: u8, b: &[u8]) -> Call
-    ensures { call_means result ≡ by_code code b.now }
-{
-    match code {
-        1 => load_call(b),
-        2 => cut_call(b),
-        5 => of_length(2, b, Call::Back),
-        6 => of_length(2, b, Call::ListPoints),
-        7 => fit_call(b),
-        8 => contents_call(b),
-        9 => orient_call(b),
-        _ => Call::Malformed,
+    match b {
+        [LOAD, ..] => load_call(b),
+        [CUT, ..] => cut_call(b),
+        [BACK, _] => Some(Call::Back),
+        [LIST_POINTS, _] => Some(Call::ListPoints),
+        [FIT, ..] => fit_call(b),
+        [CONTENTS, _, ..] => Some(Call::Contents),
+        [ORIENT, number, _] => Some(Call::Orient {
+            number: u32::from(*number),
+        }),
+        _ => None,
     }
 }
 
 // The call that the bytes of a line spell, the check at their end included.
-pub fn call_of(b: &[u8]) -> Call
+#[tactic(auto, unfolding(crate::specs::Format::call_of))]
+pub fn call_of(b: &[u8]) -> Option<Call>
     ensures { call_means result ≡ call_of b.now }
 {
     if !is_checked(b) {
-        return Call::Malformed;
+        return None;
     }
-    by_code(u8_at(b, 0), b)
+    by_code(b)
 }
 
 // A load's model.
+#[tactic(auto, unfolding(crate::specs::Format::model_part))]
 pub fn model_part(b: &[u8]) -> &[u8]
     ensures { result.now ≡ model_part b.now }
 {
@@ -201,16 +161,18 @@ pub fn model_part(b: &[u8]) -> &[u8]
 }
 
 // A load's block: what is left before the check.
+#[tactic(auto, unfolding(crate::specs::Format::block_part))]
 pub fn block_part(b: &[u8]) -> &[u8]
     ensures { result.now ≡ block_part b.now }
 {
     let model = model_length(b);
-    head(tail(b, 19 + model), less(b.len(), 20 + model))
+    head(tail(b, 19 + model), b.len().saturating_sub(20 + model))
 }
 
 // The block that contents is given: what lies between the code and the check.
+#[tactic(auto, unfolding(crate::specs::Format::contents_part))]
 pub fn contents_part(b: &[u8]) -> &[u8]
     ensures { result.now ≡ contents_part b.now }
 {
-    head(tail(b, 1), less(b.len(), 2))
+    head(tail(b, 1), b.len().saturating_sub(2))
 }

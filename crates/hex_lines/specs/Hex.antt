@@ -1,9 +1,7 @@
 -- 01, "After the sheet": "lines of hexadecimal (either case), .. at most 4,096 characters before the line feed, last byte a check".
-use Rattle.std.specs.Prelude.{ℕ, ◌+◌, ◌-◌, ◌*◌, ◌/◌, ◌%◌, Bool, true, cond, not, ◌&&◌, List, [], ◌∷◌, length, ◌==◌, nat_le, nat_lt}
+use Rattle.std.specs.Prelude.{ℕ, ◌+◌, ◌-◌, ◌*◌, ◌/◌, ◌%◌, Bool, true, cond, not, ◌&&◌, List, [], ◌∷◌, length, ◌==◌, nat_le, nat_lt, Option, Some, None}
 use Rattle.std.proofs.lemmas.List.Edits.{sets}
 use Rattle.reading.specs.Outcome.{Outcome, refused, accepted}
-use Rattle.hex_lines.specs.declared.Decoded.{Decoded}
-use Rattle.hex_lines.specs.declared.Decoded.TheVariants.{Malformed, Bytes}
 
 abbrev pub within : ℕ → ℕ → ℕ → Bool
 within low high c = nat_le low c && nat_le c high
@@ -40,9 +38,9 @@ unfoldable pub decoded_of : List ℕ → Outcome ℕ
 decoded_of line = cond (well_formed line) (accepted (length line / 2)) (refused 14)
 
 -- what the code's answer means in 01's numbers
-abbrev pub decoded_means : Decoded → Outcome ℕ
-decoded_means Malformed = refused 14
-decoded_means (Bytes n) = accepted n
+abbrev pub decoded_means : Option ℕ → Outcome ℕ
+decoded_means None = refused 14
+decoded_means (Some n) = accepted n
 
 -- the bytes at the buffer's front, the rest kept; a malformed line leaves the buffer as it was
 unfoldable pub buffer_of : List ℕ → List ℕ → List ℕ

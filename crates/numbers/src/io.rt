@@ -4,14 +4,14 @@ ghost use Rattle.numbers.specs.Numbers.{joined, u16_of, u32_of, shorts_of};
 ghost use Rattle.numbers.specs.Bytes.{same};
 
 // The order of a number's bytes.
-#[derive(Clone, Copy)]
+#[derive(Clone, Copy, PartialEq, Eq, Debug)]
 pub enum ByteOrder {
     Little,
     Big,
 }
 
 // Two 16-bit numbers.
-#[derive(Clone, Copy)]
+#[derive(Clone, Copy, PartialEq, Eq, Debug)]
 pub struct Pair {
     pub first: u16,
     pub second: u16,
@@ -21,70 +21,43 @@ pub struct Pair {
 pub fn u8_at(s: &[u8], at: usize) -> u8
     ensures { result ≡ get_or s.now at 0 }
 {
-    if at < s.len() { s[at] } else { 0 }
+    s.get(at).copied().unwrap_or(0)
 }
 
 // The part of `s` that starts at `at`; nothing past the end.
 pub fn tail(s: &[u8], at: usize) -> &[u8]
     ensures { result.now ≡ drop at s.now }
 {
-    if s.len() < at {
-        return &s[..0];
-    }
-    &s[at..]
+    s.get(at..).unwrap_or(&[])
 }
 
 // The first `len` bytes of `s`; all of it where it is shorter.
 pub fn head(s: &[u8], len: usize) -> &[u8]
     ensures { result.now ≡ take len s.now }
 {
-    if s.len() < len {
-        return s;
-    }
-    &s[..len]
+    s.get(..len).unwrap_or(s)
 }
 
 // Whether `a` and `b` hold the same bytes.
+#[tactic(auto, using(crate::proofs::Same::same_pointwise))]
 pub fn equals(a: &[u8], b: &[u8]) -> bool
     ensures { result ≡ same a.now b.now }
 {
-    if a.len() != b.len() {
-        return false;
-    }
-    let mut i: usize = 0;
-    while i < a.len() {
-        if a[i] != b[i] {
-            return false;
-        }
-        i += 1;
-    }
-    true
+    a == b
 }
 
 // Two bytes as a 16-bit number.
 pub fn joined_bytes(order: ByteOrder, a: u8, b: u8) -> u16
     ensures { result ≡ joined order 256 a b }
 {
-    let first = a as u16;
-    let second = b as u16;
     match order {
-        ByteOrder::Little => first + 256 * second,
-        ByteOrder::Big => 256 * first + second,
-    }
-}
-
-fn joined_shorts(order: ByteOrder, a: u16, b: u16) -> u32
-    ensures { result ≡ joined order 65536 a b }
-{
-    let first = a as u32;
-    let second = b as u32;
-    match order {
-        ByteOrder::Little => first + 65536 * second,
-        ByteOrder::Big => 65536 * first + second,
+        ByteOrder::Little => u16::from_le_bytes([a, b]),
+        ByteOrder::Big => u16::from_be_bytes([a, b]),
     }
 }
 
 // The 16-bit number at the front of `s`.
+#[tactic(auto, unfolding(crate::specs::Numbers::u16_of))]
 pub fn u16_of(s: &[u8], order: ByteOrder) -> u16
     ensures { result ≡ u16_of order s.now }
 {
@@ -92,19 +65,24 @@ pub fn u16_of(s: &[u8], order: ByteOrder) -> u16
 }
 
 // The two 16-bit numbers at the front of `s`.
+#[tactic(auto, unfolding(crate::specs::Numbers::shorts_of))]
 pub fn shorts(s: &[u8], order: ByteOrder) -> Pair
     ensures { result ≡ shorts_of order s.now }
 {
-    let first = u16_of(s, order);
-    let second = u16_of(tail(s, 2), order);
-    Pair { first, second }
+    Pair {
+        first: u16_of(s, order),
+        second: u16_of(tail(s, 2), order),
+    }
 }
 
 // The 32-bit number at the front of `s`.
+#[tactic(auto, unfolding(crate::specs::Numbers::u16_of, crate::specs::Numbers::u32_of))]
 pub fn u32_of(s: &[u8], order: ByteOrder) -> u32
     ensures { result ≡ u32_of order s.now }
 {
-    let a = u16_of(s, order);
-    let b = u16_of(tail(s, 2), order);
-    joined_shorts(order, a, b)
+    let bytes = [u8_at(s, 0), u8_at(s, 1), u8_at(s, 2), u8_at(s, 3)];
+    match order {
+        ByteOrder::Little => u32::from_le_bytes(bytes),
+        ByteOrder::Big => u32::from_be_bytes(bytes),
+    }
 }

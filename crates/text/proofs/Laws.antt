@@ -1,16 +1,17 @@
 -- Appends compose: a text put behind another is the one text of both, whether there is room or not. The idea: places past the
 -- buffer's end are all alike, so that the cap on places changes nothing. Then the laws of a loop that appends, and of how long a text
 -- is. Assumes nothing.
-use Prim.Native.Nat.{ℕ, suc, ◌+◌, ◌*◌, ◌<◌, ◌≤◌}
+use Prim.Native.Nat.{ℕ, ◌+◌, ◌<◌, ◌≤◌}
 use mathlib.Core.Path.{◌≡◌, refl, sym, ap, ◌∙◌}
 use mathlib.Core.List.{List, [], ◌∷◌, ◌++◌, append-nil, append_assoc}
 use mathlib.Core.Logic.{⊎_elim}
 use lib.ListN.{length, take, length-append, get_or}
-use lib.Seq.{sets, set_out, length-sets, take-suc, take_all}
+use lib.Seq.{sets, length-sets, take-suc}
 use native.Mathlib.Omega.{arith}
-use native.Mathlib.Nat.{min-eq_left, min-eq_right, suc-mul}
+use native.Mathlib.Nat.{min-eq_left, min-eq_right}
 use native.Mathlib.Numerals.{add-one}
-use Rattle.text.specs.Put.{Put, Puts, capped}
+use Rattle.text.specs.declared.Writer.{Writer}
+use Rattle.text.specs.Put.{Put, Writes, WritesUpTo, capped}
 use Rattle.laws.proofs.Tests.{by_order}
 use Rattle.laws.proofs.Lists.{sets_past, sets_append}
 
@@ -44,58 +45,56 @@ join {o} {o₁} {o₂} {ts} {us} {a} {a₁} {a₂} p q =
 pub put_same : {o o₁ ts : List ℕ} {a a₁ : ℕ} → Put o a ts o₁ a₁ → length o₁ ≡ length o
 put_same {o} {o₁} {ts} {a} p = ap length p.laid ∙ length-sets o a ts
 
--- a byte past the end
-pub put_lost : (o : List ℕ) (a b n : ℕ) → length o ≤ a → length o ≤ 18446744073709551615 → n ≡ capped (a + 1) → Put o a (b ∷ []) o n
-put_lost o a b n h g e = record { laid = sym (set_out o a b h); place = e; counted = g }
+-- ---- what a writer's methods leave, one after the other
+module _ {w w₁ w₂ : Writer} {ts us : List ℕ} where
+  pub and_then : Writes w ts w₁ → Writes w₁ us w₂ → Writes w (ts ++ us) w₂
+  and_then p q = record { same_buffer = q.same_buffer ∙ p.same_buffer; put = join p.put q.put }
 
--- ---- a piece, byte by byte
-pub put_more : {o o₁ o₂ : List ℕ} {a a₁ a₂ : ℕ} (s : List ℕ) (i : ℕ) → i < length s
-    → Put o a (take i s) o₁ a₁ → Put o₁ a₁ (get_or s i 0 ∷ []) o₂ a₂ → Put o a (take (i + 1) s) o₂ a₂
-put_more s i g p q = rw (add-one, take-suc s i 0 g) (join p q)
+  infixl 60 ◌▹◌
+  pub ◌▹◌ : {m k : ℕ} → WritesUpTo w ts m w₁ → WritesUpTo w₁ us k w₂ → WritesUpTo w (ts ++ us) (m + k) w₂
+  ◌▹◌ p q =
+      record {
+        same_buffer = q.same_buffer ∙ p.same_buffer;
+        put = join p.put q.put;
+        short = rw (length-append ts us) (omega (arith, p.short, q.short));
+      }
 
-pub put_done : {o o₁ : List ℕ} {a a₁ : ℕ} (s : List ℕ) (i : ℕ) → length s ≤ i → Put o a (take i s) o₁ a₁ → Put o a s o₁ a₁
-put_done s i g p = rw (take_all i s g) at p
+pub nothing_yet : {w : Writer} (m : ℕ) → w.at ≤ 18446744073709551615 → length w.out.now ≤ 18446744073709551615 → WritesUpTo w [] m w
+nothing_yet m h g = record { same_buffer = refl; put = put_none _ _ h g; short = omega arith }
 
--- ---- on the way to a whole text from a place on: what is written, and what is left of it
-pub record Going (o₀ : List ℕ) (a₀ : ℕ) (whole : List ℕ) (o : List ℕ) (a : ℕ) (rest : List ℕ) : Type 0 where
-  pub written : List ℕ
-  pub put : Put o₀ a₀ written o a
-  pub together : written ++ rest ≡ whole
+module _ {w w₁ : Writer} {t : List ℕ} where
+  pub up_to : {k : ℕ} → Writes w t w₁ → length t ≤ k → WritesUpTo w t k w₁
+  up_to p h = record { same_buffer = p.same_buffer; put = p.put; short = h }
 
-pub going_start : (o : List ℕ) (a : ℕ) (w : List ℕ) → a ≤ 18446744073709551615 → length o ≤ 18446744073709551615 → Going o a w o a w
-going_start o a w h g = record { written = []; put = put_none o a h g; together = refl }
+  pub at_most : {m k : ℕ} → WritesUpTo w t m w₁ → m ≤ k → WritesUpTo w t k w₁
+  at_most p h = record { same_buffer = p.same_buffer; put = p.put; short = omega (arith, p.short) }
 
-pub going_on : {o₀ w o o₁ t r : List ℕ} {a₀ a a₁ : ℕ} → Going o₀ a₀ w o a (t ++ r) → Put o a t o₁ a₁ → Going o₀ a₀ w o₁ a₁ r
-going_on {t = t} {r = r} g p =
-    record { written = g.written ++ t; put = join g.put p; together = append_assoc g.written t r ∙ g.together }
+  pub all_of : {m : ℕ} → WritesUpTo w t m w₁ → Writes w t w₁
+  all_of p = record { same_buffer = p.same_buffer; put = p.put }
 
-pub going_end : {o₀ w o : List ℕ} {a₀ a : ℕ} → Going o₀ a₀ w o a [] → Put o₀ a₀ w o a
-going_end {w = w} g =
-    let e : g.written ≡ w = sym (append-nil g.written) ∙ g.together in
-    rw e at g.put
-
--- ---- a text of so many characters at the most, and another behind it
-infixl 60 ◌▹◌
-pub ◌▹◌ : {o o₁ o₂ ts us : List ℕ} {a a₁ a₂ m k : ℕ} → Puts o a ts m o₁ a₁ → Puts o₁ a₁ us k o₂ a₂ → Puts o a (ts ++ us) (m + k) o₂ a₂
-◌▹◌ {ts = ts} {us = us} p q = (join p.0 q.0, rw (length-append ts us) (omega arith))
-
-pub at_most : {o o₁ t : List ℕ} {a a₁ m k : ℕ} → Puts o a t m o₁ a₁ → m ≤ k → Puts o a t k o₁ a₁
-at_most p h = (p.0, omega arith)
-
--- ---- a text that is put row by row, of m characters at the most each: ts i are the first i of them
-pub rows_none : (o : List ℕ) (a m : ℕ) → a ≤ 18446744073709551615 → length o ≤ 18446744073709551615 → Puts o a [] m o a
-rows_none o a m h g = (put_none o a h g, omega arith)
-
-module _ (ts : ℕ → List ℕ) (m : ℕ) {o o₁ : List ℕ} {a a₁ : ℕ} (i : ℕ) (p : Puts o a (ts i) (i * m) o₁ a₁) where
-  pub rows_more : {o₂ us : List ℕ} {a₂ : ℕ} → ts (suc i) ≡ ts i ++ us → Puts o₁ a₁ us m o₂ a₂ → Puts o a (ts (i + 1)) ((i + 1) * m) o₂ a₂
-  rows_more e q = rw (add-one, e, suc-mul i m) (p ▹ q)
-
-  pub rows_done : (n k : ℕ) → i ≡ n → n * m ≤ k → Puts o a (ts n) k o₁ a₁
-  rows_done n k e h = rw (← e) (at_most p (rw (← e) at h))
+-- a piece, byte by byte
+pub one_more : {w w₁ w₂ : Writer} (s : List ℕ) (i : ℕ) → i < length s
+    → Writes w (take i s) w₁ → Writes w₁ (get_or s i 0 ∷ []) w₂ → Writes w (take (i + 1) s) w₂
+one_more s i g p q = rw (add-one, take-suc s i 0 g) (and_then p q)
 
 -- the next place: past a text that has room it is the one behind it, and it is never farther than the text is long
 pub put_room : {o o₁ t : List ℕ} {a a₁ : ℕ} → Put o a t o₁ a₁ → a + length t ≤ length o → a₁ ≡ a + length t
 put_room p h = p.place ∙ min-eq_left (omega (arith, p.counted))
 
-pub puts_place : {o o₁ t : List ℕ} {a a₁ m : ℕ} → Puts o a t m o₁ a₁ → a₁ ≤ a + m
-puts_place p = omega (arith, p.0.place, p.1)
+-- ---- on the way to a whole text: what is written, and what is left of it
+pub record Going (w₀ : Writer) (whole : List ℕ) (w : Writer) (rest : List ℕ) : Type 0 where
+  pub written : List ℕ
+  pub writes : Writes w₀ written w
+  pub together : written ++ rest ≡ whole
+
+pub going_start : (w : Writer) (whole : List ℕ) → w.at ≤ 18446744073709551615 → length w.out.now ≤ 18446744073709551615 → Going w whole w whole
+going_start w whole h g = record { written = []; writes = all_of (nothing_yet {w = w} 0 h g); together = refl }
+
+pub going_on : {w₀ w w₁ : Writer} {all t r : List ℕ} → Going w₀ all w (t ++ r) → Writes w t w₁ → Going w₀ all w₁ r
+going_on {t = t} {r = r} g p =
+    record { written = g.written ++ t; writes = and_then g.writes p; together = append_assoc g.written t r ∙ g.together }
+
+pub going_end : {w₀ w : Writer} {all : List ℕ} → Going w₀ all w [] → Writes w₀ all w
+going_end {all = all} g =
+    let e : g.written ≡ all = sym (append-nil g.written) ∙ g.together in
+    rw e at g.writes

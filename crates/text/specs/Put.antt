@@ -1,6 +1,7 @@
 -- What an appender leaves: text laid over a buffer from a place on, and the place after it.
 use Rattle.std.specs.Prelude.{ℕ, ◌+◌, ◌≤◌, min, ◌≡◌, List, length}
 use Rattle.std.proofs.lemmas.List.Edits.{sets}
+use Rattle.text.specs.declared.Writer.{Writer}
 
 -- a place is a usize: it stops at the largest one
 abbrev pub capped : ℕ → ℕ
@@ -14,6 +15,13 @@ pub record Put (before : List ℕ) (at : ℕ) (text : List ℕ) (after : List �
   -- a buffer has a usize of places: callers count on it
   pub counted : length before ≤ 18446744073709551615
 
+-- what a writer's method leaves: its buffer is the same one, and the text is put there, from the writer's place on
+pub record Writes (before : Writer) (text : List ℕ) (after : Writer) : Type 0 where
+  pub same_buffer : after.out.ghost_name ≡ before.out.ghost_name
+  pub put : Put before.out.now before.at text after.out.now after.at
+
 -- the same of a text of `most` characters at the most
-abbrev pub Puts : List ℕ → ℕ → List ℕ → ℕ → List ℕ → ℕ → Type 0
-Puts before at text most after next = (Put before at text after next) × (length text ≤ most)
+pub record WritesUpTo (before : Writer) (text : List ℕ) (most : ℕ) (after : Writer) : Type 0 where
+  pub same_buffer : after.out.ghost_name ≡ before.out.ghost_name
+  pub put : Put before.out.now before.at text after.out.now after.at
+  pub short : length text ≤ most

@@ -1,17 +1,18 @@
--- `put_point`: six numbers and the feed, joined. c1 to c6 are the places after the six. Assumes nothing.
-use mathlib.Core.List.{[]}
-use Rattle.text.proofs.Laws.{◌▹◌}
+-- `put_point`: one more number, and the feed at the end. Assumes nothing.
+use Rattle.std.proofs.Common.{◌≡◌, ◌+◌, ◌-◌, suc, arith}
+use Rattle.text.proofs.Laws.{◌▹◌, at_most}
 use Rattle.answers.specs.Answers.{space, point_text}
 use Rattle.answers.proofs.Lines.{numbered, ended}
 use Rattle.answers.proofs.put_point.Goals as goal
 
+pub loop-k-preserved : goal.loop-k-preserved
+loop-k-preserved c =
+    let e : c.loop-k.k + 1 - 1 ≡ suc (c.loop-k.k - 1) = omega arith in
+    let f : suc (c.loop-k.k - 1) ≡ c.loop-k.k = omega arith in
+    rw e (at_most (c.loop-k.invariant ▹ numbered space (rw f c.word_at-in-loop-k.ensures) c.pair.ensures) (omega arith))
+
 pub returns : goal.returns
 unfolding point_text
 returns c =
-    numbered [] c.word_at.ensures c.put_number-a.ensures
-    ▹ numbered space c.word_at-2.ensures c.put_pair-b.ensures
-    ▹ numbered space c.word_at-3.ensures c.put_pair-c.ensures
-    ▹ numbered space c.word_at-4.ensures c.put_pair-d.ensures
-    ▹ numbered space c.word_at-5.ensures c.put_pair-e.ensures
-    ▹ numbered space c.word_at-6.ensures c.put_pair-f.ensures
-    ▹ ended c.put_byte.ensures
+    let e : c.loop-k.k ≡ 6 = omega arith in
+    rw e at c.loop-k.invariant ▹ ended c.byte.ensures

@@ -7,7 +7,7 @@ use Rattle.answers.proofs.put_tags.Goals as goal
 pub returns : goal.returns
 unfolding tags_text
 returns c =
-    let few = c.smaller-n.ensures in
-    numbered tags_word few c.put_pair-a.ensures
-    ▹ rw few at c.put_each-b.ensures
-    ▹ ended c.put_byte.ensures
+    let few = c.min-n.ensures in
+    numbered tags_word few c.pair.ensures
+    ▹ rw few at c.put_each.ensures
+    ▹ ended c.byte.ensures

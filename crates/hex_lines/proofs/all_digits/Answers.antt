@@ -1,13 +1,11 @@
--- `all_digits`: the loop's invariant is that the characters left decide. Assumes nothing.
-use Rattle.std.proofs.Common.{sym, ◌∙◌, arith}
-use Rattle.hex_lines.proofs.Laws as laws
+-- `all_digits`: what the chain tests. Assumes nothing.
+use Rattle.std.proofs.Common.{rules, IsTrue, ◌↔◌}
+use Rattle.std.specs.List.{AllPass}
+use Rattle.std.specs.Char.{is_ascii_hexdigit}
+use Rattle.hex_lines.proofs.Laws.{digits_told}
 use Rattle.hex_lines.proofs.all_digits.Goals as goal
 
-pub returns-then-digit_of-ge16 : goal.returns-then-digit_of-ge16
-returns-then-digit_of-ge16 c = sym (c.loop-i.invariant.1 ∙ laws.digits_no _ _ c.loop-i-test.true _ c.digit_of.ensures c.if-digit_of-ge16.true)
-
-pub loop-i-preserved : goal.loop-i-preserved
-loop-i-preserved c = (omega arith, c.loop-i.invariant.1 ∙ laws.digits_more _ _ c.loop-i-test.true _ c.digit_of.ensures c.if-digit_of-ge16.false)
-
 pub returns : goal.returns
-returns c = sym (c.loop-i.invariant.1 ∙ laws.digits_done _ _ c.loop-i-test.false)
+returns c =
+    let e : IsTrue c.all.result ↔ AllPass is_ascii_hexdigit c.args.line.now = search rules in
+    digits_told c.args.line.now c.all.result e

@@ -1,11 +1,15 @@
--- `write_bytes`: the loop's invariant is that the first i bytes lie over the buffer's front. Assumes nothing.
-use Rattle.std.proofs.Common.{◌≡◌, ◌-◌, ◌≤◌, take}
+-- `write_bytes`: the loop's invariant is that the bytes of what is left, laid behind those that are written, are the bytes of the line.
+-- Assumes nothing.
+use Rattle.std.proofs.Common.{◌≡◌, ◌+◌, ◌*◌, ◌≤◌, length, ℕ, List}
 use lib.Seq.{sets}
 use Rattle.hex_lines.specs.Hex.{bytes_of}
 use Rattle.hex_lines.proofs.write_bytes.Given as goal
 
-abbrev pub invariant-loop-i : goal.invariant-loop-i
-invariant-loop-i l = (l.i ≤ l.n) × (l.out ≡ sets l.initial.out 0 (take l.i (bytes_of l.line)))
+pub record Left (size count : ℕ) (rest out all : List ℕ) : Type 0 where
+  pub pairs : size ≡ 2
+  pub room : 2 * count + length rest ≤ 4096
+  pub left : sets out count (bytes_of rest) ≡ all
 
-abbrev pub decreases-loop-i : goal.decreases-loop-i
-decreases-loop-i l = l.n - l.i
+abbrev pub invariant-loop-i : goal.invariant-loop-i
+invariant-loop-i l =
+    Left l.i-iterator.iter.size l.i-iterator.count l.i-iterator.iter.rest.now l.out (sets l.initial.out 0 (bytes_of l.line))
