@@ -1,5 +1,9 @@
 -- What holds of a list of named points: it is no longer than the table, each of its points fits, and the index of a number that it has
 -- lies in it. The idea: induction along the list, by the test at its first point. Assumes nothing.
+use Rattle.std.specs.Prelude.{Some, None, ◌==◌, ◌+◌}
+use Rattle.std.specs.List.{position, position_or_len}
+use Rattle.std.proofs.lemmas.List.Recursion.{is_position_or_len}
+use borrow.Author.Tests.{lt-ltb, le-ltb}
 use Prim.Native.Nat.{ℕ, suc, ◌<◌, ◌≤◌}
 use mathlib.Core.Bool.{Bool, true, false, cond, ◌&&◌, ◌||◌, false≢true}
 use mathlib.Core.List.{List, [], ◌∷◌}
@@ -36,6 +40,21 @@ absent n (p ∷ ps) e = here (eqb p.number n) (absent n ps) e
         cond b 0 (suc (index_of n ps)) ≡ suc (length ps)
     here true rest e = absurd (false≢true (sym e))
     here false rest e = ap suc (rest e)
+
+-- so std finds it where the list has it, and nowhere else
+index_is : (n : ℕ) (ps : List FocusPoint) → index_of n ps ≡ position_or_len (λ p. p.number == n) ps
+unfolding index_of
+index_is n ps = is_position_or_len (index_of n) (λ (p : FocusPoint). p.number == n) refl one ps
+  where
+    one : (p : FocusPoint) (ps : List FocusPoint) → index_of n (p ∷ ps) ≡ cond (p.number == n) 0 (1 + index_of n ps)
+    one p ps = let e : suc (index_of n ps) ≡ 1 + index_of n ps = omega arith in rw e
+
+pub found_at : (n : ℕ) (ps : List FocusPoint) → position (λ (p : FocusPoint). p.number == n) ps ≡ cond (has_number n ps) (Some (index_of n ps)) None
+found_at n ps = here (has_number n ps) refl
+  where
+    here : (b : Bool) → has_number n ps ≡ b → position (λ (p : FocusPoint). p.number == n) ps ≡ cond b (Some (index_of n ps)) None
+    here true e = let h : position_or_len (λ (p : FocusPoint). p.number == n) ps < length ps = rw (index_is n ps) at (present n ps e) in rw (lt-ltb (position_or_len (λ (p : FocusPoint). p.number == n) ps) (length ps) h, index_is n ps)
+    here false e = let h : position_or_len (λ (p : FocusPoint). p.number == n) ps ≡ length ps = rw (index_is n ps) at (absent n ps e) in rw (le-ltb (position_or_len (λ (p : FocusPoint). p.number == n) ps) (length ps) (omega (arith, h)))
 
 module _ (w : Window) (primary mask : ℕ) where
   -- no more points than rows

@@ -1,42 +1,30 @@
--- What the value that `focus` gives tells, by its answer: refused, the load is refused by that number; accepted, the load is accepted
--- and stands in the fields. The idea: a refusal is no acceptance, on either side. Assumes nothing.
-use Prim.Native.Nat.{ℕ}
+-- What the value that `focus` gives tells: an error, the load is refused by its number; points, the load is accepted and stands in the
+-- fields. The idea: a refusal is no acceptance, on either side. Assumes nothing.
+use Rattle.std.specs.Prelude.{Ok, Err}
 use mathlib.Core.Bool.{false≢true}
-use mathlib.Core.List.{List}
-use mathlib.Core.Path.{◌≡◌, refl, sym, ap, ◌∙◌}
-use Rattle.reading.specs.Outcome.{Outcome, refused, accepted, is_accepted}
-use Rattle.placing.specs.declared.load.FocusAnswer.{FocusAnswer}
-use Rattle.placing.specs.declared.load.FocusAnswer.TheVariants.{Accepted, Refused}
+use mathlib.Core.Path.{◌≡◌, refl, sym, ap}
+use Rattle.reading.specs.Outcome.{Outcome, refused, accepted, is_accepted, number_of}
 use Rattle.placing.specs.declared.load.FocusPoints.{FocusPoints}
 use Rattle.placing.specs.declared.load.Refusal.{Refusal}
 use Rattle.placing.specs.Load.{Focus}
-use Rattle.placing.specs.Laid.{Laid, refusal_number, load_means, focus_means, laid_out}
+use Rattle.placing.specs.Laid.{refusal_number, laid_focus, focus_means, laid_out}
 
-differ : {n : ℕ} {given : List ℕ} → refused n ≡ accepted given → ⊥
-differ e = false≢true (ap is_accepted e)
-
-answer_of : (o : Outcome Focus) (p : FocusPoints) (a : FocusAnswer) → focus_means p ≡ laid_out o → p.answer ≡ a → load_means a ≡ (laid_out o).0
-answer_of o p a e g = ap load_means (sym g) ∙ ap (λ (x : Outcome (List ℕ) × Laid). x.0) e
-
--- the same outcome, of a load
-abbrev as_load : Outcome Focus → Outcome (List ℕ) → Outcome Focus
-as_load o (refused n) = refused n
-as_load o (accepted given) = o
-
-pub when_refused : (o : Outcome Focus) (p : FocusPoints) (w : Refusal) → focus_means p ≡ laid_out o → p.answer ≡ Refused w
-    → o ≡ refused (refusal_number w)
-unfolding laid_out load_means
-when_refused (refused n) p w e g = ap (as_load (refused n)) (sym (answer_of (refused n) p (Refused w) e g))
-when_refused (accepted f) p w e g = absurd (differ (answer_of (accepted f) p (Refused w) e g))
+pub when_refused : (o : Outcome Focus) (why : Refusal) → focus_means (Err why) ≡ laid_out o → o ≡ refused (refusal_number why)
+unfolding laid_out
+when_refused (refused n) why e = ap (λ (x : Outcome FocusPoints). refused (number_of x)) (sym e)
+when_refused (accepted f) why e = absurd (false≢true (ap is_accepted e))
 
 -- an accepted load, and fields that hold it
-pub record IsLaid (o : Outcome Focus) (l : Laid) : Type 0 where
+pub record IsLaid (o : Outcome Focus) (l : FocusPoints) : Type 0 where
   pub focus : Focus
   pub is : o ≡ accepted focus
-  pub laid : l ≡ (laid_out (accepted focus)).1
+  pub laid : l ≡ laid_focus focus
 
-pub when_accepted : (o : Outcome Focus) (p : FocusPoints) → focus_means p ≡ laid_out o → p.answer ≡ Accepted
-    → IsLaid o (focus_means p).1
-unfolding laid_out load_means
-when_accepted (refused n) p e g = absurd (differ (sym (answer_of (refused n) p Accepted e g)))
-when_accepted (accepted f) p e g = record { focus = f; is = refl; laid = ap (λ (x : Outcome (List ℕ) × Laid). x.1) e }
+fields : FocusPoints → Outcome FocusPoints → FocusPoints
+fields l (refused n) = l
+fields l (accepted m) = m
+
+pub when_accepted : (o : Outcome Focus) (l : FocusPoints) → focus_means (Ok l) ≡ laid_out o → IsLaid o l
+unfolding laid_out fields
+when_accepted (refused n) l e = absurd (false≢true (sym (ap is_accepted e)))
+when_accepted (accepted f) l e = record { focus = f; is = refl; laid = ap (fields l) e }

@@ -1,12 +1,12 @@
 -- Named points keep the promise of every accepted load. The idea: what is listed in a window was tested to fit it, and the table has no
 -- more points than there are places. Assumes nothing.
+use Rattle.std.specs.Prelude.{Some, None}
 use Prim.Native.Nat.{ℕ}
 use mathlib.Core.Path.{◌≡◌, refl}
 use mathlib.Core.Bool.{Bool, true, false, cond}
 use native.Mathlib.Omega.{arith}
 use Rattle.reading.specs.Outcome.{Outcome, refused, accepted}
 use Rattle.reading.specs.declared.focus.FocusAreaMode.{FocusAreaMode}
-use Rattle.reading.specs.declared.afinfo.NamedPoints.TheVariants.{NoNames, Named}
 use Rattle.placing.specs.declared.named.Window.{Window}
 use Rattle.placing.specs.Points.{points}
 use Rattle.placing.specs.Named.{listed_points, has_number, window_focus, placed_in, window_of, named_outcome, NamedSound}
@@ -37,5 +37,5 @@ module _ (primary mask : ℕ) (mode : FocusAreaMode) where
 
 pub named_sound : NamedSound
 unfolding named_outcome
-named_sound NoNames model crop picture mode = tt
-named_sound (Named code primary mask) model crop picture mode = in_frame primary mask mode (window_of code model crop picture)
+named_sound None model crop picture mode = tt
+named_sound (Some names) model crop picture mode = in_frame names.primary names.mask mode (window_of names.layout_code model crop picture)

@@ -1,5 +1,8 @@
 -- When named points are placed: a primary from 1 to 39 just where the frame is, any other never. The idea: every window shows every
 -- point of the table, so the primary is dropped from none. Assumes nothing.
+use Rattle.std.specs.Prelude.{Option, Some, None}
+use Rattle.reading.specs.declared.geometry.Size.{Size}
+use Rattle.reading.specs.declared.nikon.CropHiSpeed.{CropHiSpeed}
 use Prim.Native.Nat.{ℕ, zero, suc, ◌+◌, ◌-◌, ◌<◌, ◌≤◌}
 use mathlib.Core.Path.{◌≡◌, refl, sym, ◌∙◌}
 use mathlib.Core.Bool.{Bool, true, false, cond}
@@ -10,15 +13,13 @@ use lib.ListN.{length, get_or}
 use borrow.Author.Tests.{eq-eqb, ne_eqb}
 use Rattle.reading.specs.Outcome.{Outcome, refused, accepted, number_of}
 use Rattle.numbers.specs.Bytes.{same}
-use Rattle.reading.specs.declared.geometry.OptionalSize.{OptionalSize}
 use Rattle.reading.specs.declared.focus.FocusAreaMode.{FocusAreaMode}
-use Rattle.reading.specs.declared.nikon.Crop.{Crop}
 use Rattle.laws.proofs.Tests.{or_second, either}
 use Rattle.placing.specs.declared.points.FocusLayoutPoint.{FocusLayoutPoint}
 use Rattle.placing.specs.declared.named.Window.{Window}
 use Rattle.placing.specs.Points.{table_of, points}
 use Rattle.placing.specs.declared.points.PointTable.{PointTable}
-use Rattle.placing.specs.declared.points.PointTable.TheVariants.{NoTable, NikonD600}
+use Rattle.placing.specs.declared.points.PointTable.TheVariants.{NikonD600}
 use Rattle.placing.specs.Named.{less_origin, fits_window, is_named, is_listed, placed_frame, listed_from, has_number, placed_in, window_by, window_of, named_outcome}
 use Rattle.placing.specs.Table.{PlacedByFrame, NoPrimary}
 use Rattle.placing.proofs.Frames.{by_frame}
@@ -62,7 +63,7 @@ abbrev ShowsAll : Outcome Window → Type 0
 ShowsAll (refused n) = Unit
 ShowsAll (accepted w) = (i : ℕ) → i < 39 → fits_window w (get_or points i no_layout_point) ≡ true
 
-frame_shows_all : (crop : Crop) (picture : OptionalSize) → ShowsAll (placed_frame crop picture)
+frame_shows_all : (crop : Option CropHiSpeed) (picture : Option Size) → ShowsAll (placed_frame crop picture)
 frame_shows_all crop picture =
     by_frame ShowsAll (λ i. λ h. (fits_at i h).in_whole) (λ i. λ h. (fits_at i h).in_medium) (λ i. λ h. (fits_at i h).in_dx) tt crop picture
 
@@ -95,9 +96,9 @@ not_in_frame (accepted w) primary mask mode none six =
     rw (has_not w primary mask points other)
 
 -- and so is a window
-by_table : (t : PointTable) (code : ℕ) (crop : Crop) (picture : OptionalSize) → SixIfRefused (window_by t code crop picture)
-by_table NoTable code crop picture = refl
-by_table NikonD600 code crop picture =
+by_table : (t : Option PointTable) (code : ℕ) (crop : Option CropHiSpeed) (picture : Option Size) → SixIfRefused (window_by t code crop picture)
+by_table None code crop picture = refl
+by_table (Some NikonD600) code crop picture =
     either SixIfRefused (eqb code 3) (placed_frame crop picture) (refused 6) (by_frame SixIfRefused tt tt tt refl crop picture) refl
 
 pub no_primary : NoPrimary

@@ -1,33 +1,35 @@
 -- Every load keeps the promise of Sound. The idea: a position that is placed fits its frame, named points keep the promise, and the
 -- numbers 1 to 4 only refuse. Assumes nothing.
+use Rattle.std.specs.Prelude.{Option}
+use Rattle.reading.specs.declared.geometry.Size.{Size}
+use Rattle.reading.specs.declared.nikon.CropHiSpeed.{CropHiSpeed}
 use Prim.Native.Nat.{ℕ}
 use mathlib.Core.List.{List}
 use native.Mathlib.Omega.{arith}
 use Rattle.reading.specs.Outcome.{Outcome, refused, accepted, and_then}
-use Rattle.reading.specs.declared.geometry.OptionalSize.{OptionalSize}
 use Rattle.reading.specs.declared.focus.FocusAreaMode.{FocusAreaMode}
-use Rattle.reading.specs.declared.nikon.Crop.{Crop}
 use Rattle.placing.specs.Load.{Focus, alone}
 use Rattle.placing.specs.Named.{named_outcome}
 use Rattle.placing.specs.Sound.{Sound}
 use Rattle.reading.specs.Note.{values_of}
 use Rattle.reading.specs.declared.nikon.CropArea.{CropArea}
 use Rattle.reading.specs.declared.afinfo.FocusRecord.{FocusRecord}
-use Rattle.placing.specs.Recorded.{position_of, Placement}
+use Rattle.placing.specs.Recorded.{position_of}
+use Rattle.placing.specs.declared.focus.Framed.{Framed}
 use Rattle.placing.specs.Focus.{point_of, records_position, placed_of, focus_of, LoadSound}
 use Rattle.laws.proofs.Tests.{either}
 use Rattle.placing.proofs.RecordedFits.{Fits, position_fits}
 use Rattle.placing.proofs.NamedSound.{named_sound}
 
 -- one point that fits is a sound load
-pub alone_sound : (m : FocusAreaMode) (q : Outcome Placement) → Fits q → Sound (and_then q (λ x. alone x.frame x.point m))
+pub alone_sound : (m : FocusAreaMode) (q : Outcome Framed) → Fits q → Sound (and_then q (λ x. alone x.frame x.point m))
 unfolding Fits
 alone_sound m (refused n) h = tt
 alone_sound m (accepted q) h =
     record { count_some = omega arith; room = omega arith; primary_in = omega arith; fit = (h, tt) }
 
 -- a record that is placed
-placed_sound : (r : FocusRecord) (crop : Crop) (area : CropArea) (picture : OptionalSize) (model : List ℕ) →
+placed_sound : (r : FocusRecord) (crop : Option CropHiSpeed) (area : CropArea) (picture : Option Size) (model : List ℕ) →
     Sound (placed_of r crop area picture model)
 unfolding placed_of
 placed_sound r crop area picture model =

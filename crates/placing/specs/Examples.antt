@@ -1,24 +1,20 @@
 -- 01, 'Edges': the starred examples as one table. A further example is a row, a further kind a constructor with its line in `agrees`.
-use Rattle.std.specs.Prelude.{ℕ, ◌-◌, ◌^◌, Bool, true, false, ◌&&◌, List, [], ◌∷◌, ◌++◌, ◌≡◌, replicate, eqb}
+use Rattle.std.specs.Prelude.{Option, Some, None, ℕ, ◌-◌, ◌^◌, Bool, true, false, ◌&&◌, List, [], ◌∷◌, ◌++◌, ◌≡◌, replicate, eqb}
+use Rattle.reading.specs.declared.nikon.CropHiSpeed.{CropHiSpeed}
 use Rattle.std.specs.Bool.{beq}
 use Rattle.reading.specs.Outcome.{Outcome, refused, accepted, number_of}
 use Rattle.reading.specs.Focus.{in_focus_number}
 use Rattle.reading.specs.Record.{record_of}
 use Rattle.numbers.specs.declared.io.ByteOrder.TheVariants.{Big}
 use Rattle.reading.specs.declared.geometry.Size.{Size}
-use Rattle.reading.specs.declared.geometry.OptionalSize.{OptionalSize}
-use Rattle.reading.specs.declared.geometry.OptionalSize.TheVariants.{Missing, Given}
 use Rattle.reading.specs.declared.focus.InFocus.TheVariants.{Unrecorded as unrecorded}
 use Rattle.reading.specs.declared.focus.FocusAreaMode.TheVariants.{Single}
-use Rattle.reading.specs.declared.nikon.Crop.{Crop}
-use Rattle.reading.specs.declared.nikon.Crop.TheVariants.{NoCrop, Stated}
-use Rattle.reading.specs.declared.afinfo.NamedPoints.TheVariants.{Named}
 use Rattle.placing.specs.declared.focus.FocusPoint.{FocusPoint}
 use Rattle.placing.specs.Fit.{axis_fits, by}
 use Rattle.placing.specs.Scale.{scale_of, scaled_point}
 use Rattle.placing.specs.Load.{Focus}
 use Rattle.placing.specs.Points.{d600}
-use Rattle.placing.specs.Named.{named_outcome}
+use Rattle.placing.specs.Named.{names_of, named_outcome}
 
 pub data Example : Type 0 where
   -- scale of a value, from an old side to a new one, is the last number
@@ -28,7 +24,7 @@ pub data Example : Type 0 where
   -- a point, scaled from one frame to another, is the last point
   scaling : FocusPoint → Size → Size → FocusPoint → Example
   -- a number is the primary and marked, with a crop and a picture size: its point, the only one, is at x and y
-  names : ℕ → Crop → OptionalSize → ℕ → ℕ → Example
+  names : ℕ → Option CropHiSpeed → Option Size → ℕ → ℕ → Example
   -- a record of version 0100 and of so many bytes is refused by a number, or read, which is 0
   reads : ℕ → ℕ → Example
 
@@ -41,9 +37,9 @@ abbrev point_at : ℕ → ℕ → ℕ → Size → FocusPoint
 point_at n x y size = record { number = n; center = record { x = x; y = y }; size = size; in_focus = unrecorded }
 
 -- the D600's DX crop: the mode, the size of the raw data before and after it, and the origin
-abbrev dx_crop : Crop
+abbrev dx_crop : Option CropHiSpeed
 dx_crop =
-    Stated
+    Some
     (record { mode = 2; original = by 6080 4028; cropped = by 3968 2636; origin = record { x = 1040; y = 696 } })
 
 abbrev pub starred_rows : List Example
@@ -54,9 +50,9 @@ starred_rows =
     fitting 3 2 4 true ∷  -- "Side 3 at centre 2 fits frame 4"
     fitting 3 2 3 false ∷  -- "not frame 3"
     scaling (point_at 0 20 20 (square 40)) (square 100) (square 1) (point_at 0 0 0 (square 0)) ∷  -- "Centre 20, frame 100 to 1: centre 0, area dropped"
-    names 27 dx_crop Missing 3163 1612 ∷  -- "Point 27 in the DX window: (3163, 1612)"
-    names 38 dx_crop Missing 772 1009 ∷  -- "Point 38: (772, 1009)"
-    names 1 NoCrop (Given (by 4512 3008)) 3005 2002 ∷  -- "Point 1 in 4512 by 3008: (3005, 2002)"
+    names 27 dx_crop None 3163 1612 ∷  -- "Point 27 in the DX window: (3163, 1612)"
+    names 38 dx_crop None 772 1009 ∷  -- "Point 38: (772, 1009)"
+    names 1 None (Some (by 4512 3008)) 3005 2002 ∷  -- "Point 1 in 4512 by 3008: (3005, 2002)"
     reads 29 4 ∷  -- "Version 0100 of 29 bytes: 4"
     reads 30 0 ∷  -- "30 is read"
     []
@@ -89,7 +85,7 @@ agrees (scales v old new result) = eqb (scale_of v old new) result
 agrees (fitting side center frame result) = beq (axis_fits side center frame) result
 agrees (scaling p old new result) = same_point (scaled_point p old new) result
 agrees (names n crop picture x y) =
-    is_only (named_outcome (Named 3 n (2 ^ (n - 1))) d600 crop picture Single) (point_at n x y (square 164))
+    is_only (named_outcome (names_of 3 n (2 ^ (n - 1))) d600 crop picture Single) (point_at n x y (square 164))
 agrees (reads n number) = eqb (number_of (record_of Big (zero_record n))) number
 
 unfoldable pub rows_agree : List Example → Bool

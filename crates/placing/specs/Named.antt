@@ -1,29 +1,26 @@
 -- 01, 'Named points': which points of the table a record names, and where they lie in the picture's frame.
-use Rattle.std.specs.Prelude.{ℕ, suc, ◌-◌, ◌/◌, ◌%◌, ◌^◌, Bool, true, false, cond, ◌&&◌, ◌||◌, List, [], ◌∷◌, leb, eqb}
+use Rattle.std.specs.Prelude.{ℕ, suc, ◌-◌, ◌/◌, ◌%◌, ◌^◌, Bool, true, false, cond, ◌&&◌, ◌||◌, List, [], ◌∷◌, leb, eqb, Option, Some, None}
 use Rattle.reading.specs.Outcome.{Outcome, refused, accepted}
 use Rattle.reading.specs.declared.geometry.Size.{Size}
 use Rattle.reading.specs.declared.geometry.Point.{Point}
-use Rattle.reading.specs.declared.geometry.OptionalSize.{OptionalSize}
-use Rattle.reading.specs.declared.geometry.OptionalSize.TheVariants.{Missing, Given}
 use Rattle.reading.specs.declared.focus.InFocus.TheVariants as answers
 use Rattle.reading.specs.declared.focus.FocusAreaMode.{FocusAreaMode}
 use Rattle.reading.specs.declared.nikon.CropHiSpeed.{CropHiSpeed}
-use Rattle.reading.specs.declared.nikon.Crop.{Crop}
-use Rattle.reading.specs.declared.nikon.Crop.TheVariants.{NoCrop, Stated}
 use Rattle.reading.specs.declared.afinfo.NamedPoints.{NamedPoints}
-use Rattle.reading.specs.declared.afinfo.NamedPoints.TheVariants.{NoNames, Named}
 use Rattle.placing.specs.declared.focus.FocusPoint.{FocusPoint}
 use Rattle.placing.specs.Fit.{point_fits, same_size, by}
 use Rattle.placing.specs.declared.load.FocusOrigin.TheVariants.{Table}
 use Rattle.placing.specs.Load.{Focus}
 use Rattle.placing.specs.declared.points.FocusLayoutPoint.{FocusLayoutPoint}
 use Rattle.placing.specs.declared.named.Window.{Window}
-use Rattle.placing.specs.declared.named.PlacedFrame.{PlacedFrame}
-use Rattle.placing.specs.declared.named.PlacedFrame.TheVariants.{Unconfirmed, Confirmed}
 use Rattle.placing.specs.Sound.{Sound}
 use Rattle.placing.specs.declared.points.PointTable.{PointTable}
-use Rattle.placing.specs.declared.points.PointTable.TheVariants.{NoTable, NikonD600}
+use Rattle.placing.specs.declared.points.PointTable.TheVariants.{NikonD600}
 use Rattle.placing.specs.Points.{table_of, points}
+
+-- what a record names: the layout code of the numbers, the primary's number and the mask
+abbrev pub names_of : ℕ → ℕ → ℕ → Option NamedPoints
+names_of code primary mask = Some (record { layout_code = code; primary = primary; mask = mask })
 
 -- a part of the table's frame: its size, and the origin from which it starts
 abbrev pub window : Size → ℕ → ℕ → Window
@@ -45,37 +42,37 @@ unfoldable pub same_place : Point → Point → Bool
 same_place a b = eqb a.x b.x && eqb a.y b.y
 
 -- whether a picture's size is this; of one that is missing, what `missing` says
-unfoldable pub picture_is : OptionalSize → Size → Bool → Bool
-picture_is Missing size missing = missing
-picture_is (Given picture) size missing = same_size picture size
+unfoldable pub picture_is : Option Size → Size → Bool → Bool
+picture_is None size missing = missing
+picture_is (Some picture) size missing = same_size picture size
 
 -- the picture's size is given, and is this
-abbrev pub given_as : OptionalSize → Size → Bool
+abbrev pub given_as : Option Size → Size → Bool
 given_as picture size = picture_is picture size false
 
 -- "picture size none or" this
-abbrev pub none_or : OptionalSize → Size → Bool
+abbrev pub none_or : Option Size → Size → Bool
 none_or picture size = picture_is picture size true
 
 -- "Crop with cropped ≠ original: mode 2, origin (1040, 696), picture size none or 3936 by 2624, else 6; that size is the frame."
-unfoldable pub on_crop : CropHiSpeed → OptionalSize → Outcome Window
+unfoldable pub on_crop : CropHiSpeed → Option Size → Outcome Window
 on_crop crop picture =
     cond (eqb crop.mode 2 && (same_place crop.origin dx.origin && none_or picture dx.frame)) (accepted dx) (refused 6)
 
 -- "Otherwise picture 4512 by 3008 gives frame 6010 by 4006 from (3, 5); any other gives the whole frame."
-unfoldable pub uncropped : OptionalSize → Window
+unfoldable pub uncropped : Option Size → Window
 uncropped picture = cond (given_as picture (by 4512 3008)) medium whole
 
 -- "cropped ≠ original", "Otherwise"
-unfoldable pub placed_frame : Crop → OptionalSize → Outcome Window
-placed_frame NoCrop picture = accepted (uncropped picture)
-placed_frame (Stated crop) picture =
+unfoldable pub placed_frame : Option CropHiSpeed → Option Size → Outcome Window
+placed_frame None picture = accepted (uncropped picture)
+placed_frame (Some crop) picture =
     cond (same_size crop.cropped crop.original) (accepted (uncropped picture)) (on_crop crop picture)
 
 -- what the code's answer means in 01's numbers
-abbrev pub frame_means : PlacedFrame → Outcome Window
-frame_means Unconfirmed = refused 6
-frame_means (Confirmed w) = accepted w
+abbrev pub frame_means : Option Window → Outcome Window
+frame_means None = refused 6
+frame_means (Some w) = accepted w
 
 -- "Point number n has mask bit n − 1, least significant first."
 unfoldable pub marked : ℕ → ℕ → Bool
@@ -141,21 +138,21 @@ placed_in (accepted w) primary mask mode =
     cond (has_number primary (listed_points w primary mask)) (accepted (window_focus w primary mask mode)) (refused 6)
 
 -- "The model must match in full, and the layout code", which is 3
-abbrev pub window_by : PointTable → ℕ → Crop → OptionalSize → Outcome Window
-window_by NoTable code crop picture = refused 6
-window_by NikonD600 code crop picture = cond (eqb code 3) (placed_frame crop picture) (refused 6)
+abbrev pub window_by : Option PointTable → ℕ → Option CropHiSpeed → Option Size → Outcome Window
+window_by None code crop picture = refused 6
+window_by (Some NikonD600) code crop picture = cond (eqb code 3) (placed_frame crop picture) (refused 6)
 
-unfoldable pub window_of : ℕ → List ℕ → Crop → OptionalSize → Outcome Window
+unfoldable pub window_of : ℕ → List ℕ → Option CropHiSpeed → Option Size → Outcome Window
 window_of code model crop picture = window_by (table_of model) code crop picture
 
 -- "no recorded position and named points cannot be placed": 6
-unfoldable pub named_outcome : NamedPoints → List ℕ → Crop → OptionalSize → FocusAreaMode → Outcome Focus
-named_outcome NoNames model crop picture mode = refused 6
-named_outcome (Named code primary mask) model crop picture mode =
-    placed_in (window_of code model crop picture) primary mask mode
+unfoldable pub named_outcome : Option NamedPoints → List ℕ → Option CropHiSpeed → Option Size → FocusAreaMode → Outcome Focus
+named_outcome None model crop picture mode = refused 6
+named_outcome (Some names) model crop picture mode =
+    placed_in (window_of names.layout_code model crop picture) names.primary names.mask mode
 
 -- named points keep the promise of every accepted load; proofs/NamedSound.antt has the proof
 abbrev pub NamedSound : Type 0
 NamedSound =
-    (named : NamedPoints) (model : List ℕ) (crop : Crop) (picture : OptionalSize) (mode : FocusAreaMode)
+    (named : Option NamedPoints) (model : List ℕ) (crop : Option CropHiSpeed) (picture : Option Size) (mode : FocusAreaMode)
     → Sound (named_outcome named model crop picture mode)

@@ -1,17 +1,17 @@
 -- 01, 'Named points': the table of the D600's 39 points, "number, centre and box", from nikon_d600.rs.
-use Rattle.std.specs.Prelude.{ℕ, cond, List, [], ◌∷◌}
+use Rattle.std.specs.Prelude.{ℕ, cond, List, [], ◌∷◌, Option, Some, None}
 use Rattle.numbers.specs.Bytes.{same}
 use Rattle.placing.specs.declared.points.FocusLayoutPoint.{FocusLayoutPoint}
 use Rattle.placing.specs.declared.points.PointTable.{PointTable}
-use Rattle.placing.specs.declared.points.PointTable.TheVariants.{NoTable, NikonD600}
+use Rattle.placing.specs.declared.points.PointTable.TheVariants.{NikonD600}
 
 -- NIKON D600
 abbrev pub d600 : List ℕ
 d600 = 78 ∷ 73 ∷ 75 ∷ 79 ∷ 78 ∷ 32 ∷ 68 ∷ 54 ∷ 48 ∷ 48 ∷ []
 
 -- "The model must match in full"
-unfoldable pub table_of : List ℕ → PointTable
-table_of model = cond (same model d600) NikonD600 NoTable
+unfoldable pub table_of : List ℕ → Option PointTable
+table_of model = cond (same model d600) (Some NikonD600) None
 
 -- "boxes 164 square": a point by its number and its center
 abbrev pub layout_point : ℕ → ℕ → ℕ → FocusLayoutPoint

@@ -1,22 +1,23 @@
 // The points of one load, or why there are none.
 ghost use Rattle.std.specs.Prelude.{◌≡◌, replicate};
 ghost use Rattle.placing.specs.Load.{no_point, origin_number};
-ghost use Rattle.placing.specs.Laid.{refusal_number, load_means, focus_means, laid_out};
-ghost use Rattle.reading.specs.Outcome.{refused, number_of};
+ghost use Rattle.placing.specs.Laid.{refusal_number};
+ghost use Rattle.reading.specs.Note.{note_refusal_number};
 
 use crate::focus::FocusPoint;
-use reading::focus::{FocusAreaMode, InFocus};
-use reading::geometry::{Point, Size};
+use reading::focus::FocusAreaMode;
+use reading::geometry::Size;
+use reading::note::NoteRefusal;
 
 // Where points come from: the record's own position, or the table of the body's points.
-#[derive(Clone, Copy)]
+#[derive(Clone, Copy, PartialEq, Eq, Debug)]
 pub enum FocusOrigin {
     Recorded,
     Table,
 }
 
 // Why a load gives no points: 01's numbers 1 to 6, in this order.
-#[derive(Clone, Copy)]
+#[derive(Clone, Copy, PartialEq, Eq, Debug)]
 pub enum Refusal {
     Unreadable,
     NoRecord,
@@ -26,18 +27,10 @@ pub enum Refusal {
     NamesUnplaced,
 }
 
-// How a load ends.
-#[derive(Clone, Copy)]
-pub enum FocusAnswer {
-    Accepted,
-    Refused(Refusal),
-}
-
-// The points of one load in their frame, of which the first `count` places hold one each and `primary` is the index of
-// the primary. Where the load is refused, every number is zero, the mode is none and the origin is Recorded.
-#[derive(Clone, Copy)]
+// The points of one load in their frame, of which the first `count` places hold one each and `primary` is the index of the primary.
+// kept: 39 places and a count, as 01 has them: fixed memory, handed on by value.
+#[derive(Clone, Copy, PartialEq, Eq, Debug)]
 pub struct FocusPoints {
-    pub answer: FocusAnswer,
     pub frame: Size,
     pub points: [FocusPoint; 39],
     pub count: usize,
@@ -47,7 +40,8 @@ pub struct FocusPoints {
 }
 
 // Points in the first `count` of 39 places.
-#[derive(Clone, Copy)]
+// kept: places and a count, as in FocusPoints, which they become.
+#[derive(Clone, Copy, PartialEq, Eq, Debug)]
 pub struct PointPlaces {
     pub points: [FocusPoint; 39],
     pub count: usize,
@@ -57,67 +51,50 @@ pub struct PointPlaces {
 pub fn no_places() -> [FocusPoint; 39]
     ensures { result ≡ replicate 39 no_point }
 {
-    let p = FocusPoint {
-        number: 0,
-        center: Point { x: 0, y: 0 },
-        size: Size {
-            width: 0,
-            height: 0,
-        },
-        in_focus: InFocus::Unrecorded,
-    };
-    [p; 39]
-}
-
-// A load that is refused.
-pub fn no_points(why: Refusal) -> FocusPoints
-    ensures { focus_means result ≡ laid_out (refused (refusal_number why)) }
-{
-    let points = no_places();
-    FocusPoints {
-        answer: FocusAnswer::Refused(why),
-        frame: Size {
-            width: 0,
-            height: 0,
-        },
-        points,
-        count: 0,
-        primary: 0,
-        area_mode: FocusAreaMode::NoMode,
-        origin: FocusOrigin::Recorded,
-    }
+    [FocusPoint::default(); 39]
 }
 
 // 01's number for where points come from.
-pub fn origin_number(origin: FocusOrigin) -> u32
-    ensures { result ≡ origin_number origin }
-{
-    match origin {
-        FocusOrigin::Recorded => 1,
-        FocusOrigin::Table => 2,
+impl From<FocusOrigin> for u32 {
+    ghost from_gives = { λ origin n. n ≡ origin_number origin };
+
+    #[tactic(auto, unfolding(crate::specs::Load::origin_number))]
+    fn from(origin: FocusOrigin) -> u32 {
+        match origin {
+            FocusOrigin::Recorded => 1,
+            FocusOrigin::Table => 2,
+        }
     }
 }
 
 // 01's number for why a load gives no points.
-pub fn refusal_number(why: Refusal) -> u32
-    ensures { result ≡ refusal_number why }
-{
-    match why {
-        Refusal::Unreadable => 1,
-        Refusal::NoRecord => 2,
-        Refusal::ManualFocus => 3,
-        Refusal::BadRecord => 4,
-        Refusal::PositionUnplaced => 5,
-        Refusal::NamesUnplaced => 6,
+impl From<Refusal> for u32 {
+    ghost from_gives = { λ why n. n ≡ refusal_number why };
+
+    #[tactic(auto, unfolding(crate::specs::Laid::refusal_number))]
+    fn from(why: Refusal) -> u32 {
+        match why {
+            Refusal::Unreadable => 1,
+            Refusal::NoRecord => 2,
+            Refusal::ManualFocus => 3,
+            Refusal::BadRecord => 4,
+            Refusal::PositionUnplaced => 5,
+            Refusal::NamesUnplaced => 6,
+        }
     }
 }
 
-// 01's number for how a load ends, 0 for accepted.
-pub fn load_number(answer: FocusAnswer) -> u32
-    ensures { result ≡ number_of (load_means answer) }
-{
-    match answer {
-        FocusAnswer::Accepted => 0,
-        FocusAnswer::Refused(why) => refusal_number(why),
+// What a note is refused for, a load is refused for.
+impl From<NoteRefusal> for Refusal {
+    ghost from_gives = { λ why refusal. refusal_number refusal ≡ note_refusal_number why };
+
+    #[tactic(auto, unfolding(crate::specs::Laid::refusal_number))]
+    fn from(why: NoteRefusal) -> Refusal {
+        match why {
+            NoteRefusal::Unreadable => Refusal::Unreadable,
+            NoteRefusal::NoRecord => Refusal::NoRecord,
+            NoteRefusal::ManualFocus => Refusal::ManualFocus,
+            NoteRefusal::BadRecord => Refusal::BadRecord,
+        }
     }
 }

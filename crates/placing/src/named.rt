@@ -1,29 +1,30 @@
 // The points that a record names by their numbers, placed from the table of the body's points.
-ghost use Rattle.std.specs.Prelude.{◌≡◌, ◌≤◌, ◌<◌, take};
+ghost use Rattle.std.specs.Prelude.{◌≡◌, ◌==◌};
+ghost use Rattle.std.specs.List.{position};
 ghost use Rattle.placing.specs.Laid.{focus_means, laid_out};
 ghost use Rattle.placing.specs.Inside.{point_places, candidate_of};
-ghost use Rattle.placing.specs.Named.{same_place, picture_is, on_crop, uncropped, frame_means, placed_frame, marked, is_named, fits_window, less_origin, is_listed, listed_points, index_of, placed_in, window_of};
+ghost use Rattle.placing.specs.Named.{picture_is, on_crop, uncropped, frame_means, placed_frame, marked, is_named, fits_window, less_origin, is_listed, listed_points, placed_in, window_of};
 ghost use Rattle.reading.specs.Outcome.{accepted};
 
 use crate::focus::FocusPoint;
-use crate::load::{FocusAnswer, FocusOrigin, FocusPoints, PointPlaces, Refusal};
+use crate::load::{FocusOrigin, FocusPoints, PointPlaces, Refusal};
 use crate::points::{FocusLayoutPoint, PointTable};
 use reading::focus::{FocusAreaMode, InFocus};
-use reading::geometry::{OptionalSize, Point, Size};
-use reading::nikon::{Crop, CropHiSpeed};
+use reading::geometry::{Point, Size};
+use reading::nikon::CropHiSpeed;
 
 // A part of the table's frame: the frame that points are placed in, and where it starts.
-#[derive(Clone, Copy)]
+#[derive(Clone, Copy, PartialEq, Eq, Debug)]
 pub struct Window {
     pub frame: Size,
     pub origin: Point,
 }
 
-// The frame of the points placed from the table, if the crop is one whose window in the table's frame is known.
-#[derive(Clone, Copy)]
-pub enum PlacedFrame {
-    Unconfirmed,
-    Confirmed(Window),
+// The points that are named: the primary's number, and the mask of the points used, one bit each.
+#[derive(Clone, Copy, PartialEq, Eq, Debug)]
+pub struct Names {
+    pub primary: u32,
+    pub mask: u64,
 }
 
 // The whole frame: the body's full-size picture.
@@ -62,206 +63,149 @@ const MEDIUM: Window = Window {
     origin: Point { x: 3, y: 5 },
 };
 
-fn same_place(a: Point, b: Point) -> bool
-    ensures { result ≡ same_place a b }
-{
-    a.x == b.x && a.y == b.y
-}
-
 // Whether the picture's size is `size`; of a size that is missing, `missing`.
-fn picture_is(picture: OptionalSize, size: Size, missing: bool) -> bool
+#[tactic(auto, unfolding(crate::specs::Named::picture_is, crate::specs::Fit::same_size))]
+fn picture_is(picture: Option<Size>, size: Size, missing: bool) -> bool
     ensures { result ≡ picture_is picture size missing }
 {
-    match picture {
-        OptionalSize::Given(given) => crate::focus::same_size(given, size),
-        OptionalSize::Missing => missing,
-    }
+    picture.map_or(missing, |given| given == size)
 }
 
 // The window of a crop: only the DX crop's is known, where that starts and in a picture of its size.
-fn on_crop(crop: CropHiSpeed, picture: OptionalSize) -> PlacedFrame
+#[tactic(auto, unfolding(crate::specs::Named::on_crop, crate::specs::Named::same_place))]
+fn on_crop(crop: CropHiSpeed, picture: Option<Size>) -> Option<Window>
     ensures { frame_means result ≡ on_crop crop picture }
 {
-    if crop.mode != DX_MODE {
-        return PlacedFrame::Unconfirmed;
-    }
-    let origin = crop.origin;
-    let window = DX;
-    let start = window.origin;
-    if !same_place(origin, start) {
-        return PlacedFrame::Unconfirmed;
-    }
-    let frame = window.frame;
-    if !picture_is(picture, frame, true) {
-        return PlacedFrame::Unconfirmed;
-    }
-    PlacedFrame::Confirmed(window)
+    (crop.mode == DX_MODE
+        && crop.origin == DX.origin
+        && picture_is(picture, DX.frame, true)).then_some(DX)
 }
 
 // The window of an uncropped picture: the whole frame, but for the Medium JPEG.
-fn uncropped_window(picture: OptionalSize) -> Window
+#[tactic(auto, unfolding(crate::specs::Named::uncropped))]
+fn uncropped_window(picture: Option<Size>) -> Window
     ensures { result ≡ uncropped picture }
 {
     if picture_is(picture, MEDIUM_JPEG, false) {
-        return MEDIUM;
+        MEDIUM
+    } else {
+        WHOLE
     }
-    WHOLE
 }
 
-// The frame of the points placed from the table, and the origin that their centers lose.
-pub fn placed_frame(crop: Crop, picture: OptionalSize) -> PlacedFrame
+// The frame of the points placed from the table, and the origin that their centers lose; none where the crop's window in the table's
+// frame is not known.
+#[tactic(auto, unfolding(crate::specs::Named::placed_frame, crate::specs::Fit::same_size))]
+pub fn placed_frame(crop: Option<CropHiSpeed>, picture: Option<Size>) -> Option<Window>
     ensures { frame_means result ≡ placed_frame crop picture }
 {
     match crop {
-        Crop::Stated(stated) => {
-            let cropped = stated.cropped;
-            let original = stated.original;
-            if crate::focus::same_size(cropped, original) {
-                return PlacedFrame::Confirmed(uncropped_window(picture));
-            }
-            on_crop(stated, picture)
-        }
-        Crop::NoCrop => PlacedFrame::Confirmed(uncropped_window(picture)),
+        Some(stated) if stated.cropped != stated.original => on_crop(stated, picture),
+        _ => Some(uncropped_window(picture)),
     }
 }
 
 // Whether the mask marks a point: number n is bit n − 1, the least significant first.
+#[tactic(auto, unfolding(crate::specs::Named::marked))]
 fn marks(mask: u64, number: u32) -> bool
-    requires { (0 < number) × (number ≤ 39) }
     ensures { result ≡ marked mask number }
 {
-    (mask >> (number - 1)) % 2 == 1
+    mask.checked_shr(number.saturating_sub(1)).unwrap_or(0) % 2 == 1
 }
 
 // Whether a record names a point: as the primary, or by its mask.
 #[tactic(auto, unfolding(crate::specs::Named::is_named))]
-fn is_named(number: u32, primary: u32, mask: u64) -> bool
-    requires { (0 < number) × (number ≤ 39) }
-    ensures { result ≡ is_named primary mask number }
+fn is_named(names: Names, number: u32) -> bool
+    ensures { result ≡ is_named names.primary names.mask number }
 {
-    number == primary || marks(mask, number)
-}
-
-// What becomes of a point of the table.
-#[derive(Clone, Copy)]
-enum Candidate {
-    Out,
-    In(FocusPoint),
+    number == names.primary || marks(names.mask, number)
 }
 
 // The point less the window's origin, where it then fits the window.
-fn less_origin(point: FocusLayoutPoint, window: Window) -> Candidate
+#[tactic(auto, unfolding(crate::specs::Named::fits_window))]
+fn less_origin(point: FocusLayoutPoint, window: Window) -> Option<FocusPoint>
     ensures { result ≡ candidate_of (fits_window window point) (less_origin window point) }
 {
-    let frame = window.frame;
-    let origin = window.origin;
-    let from = point.center;
-    let size = point.size;
-    if from.x < origin.x {
-        return Candidate::Out;
-    }
-    if from.y < origin.y {
-        return Candidate::Out;
-    }
+    let x = point.center.x.checked_sub(window.origin.x)?;
+    let y = point.center.y.checked_sub(window.origin.y)?;
     let moved = FocusPoint {
         number: point.number,
-        center: Point {
-            x: from.x - origin.x,
-            y: from.y - origin.y,
-        },
-        size,
+        center: Point { x, y },
+        size: point.size,
         in_focus: InFocus::Unrecorded,
     };
-    if !crate::focus::point_fits(frame, moved) {
-        return Candidate::Out;
-    }
-    Candidate::In(moved)
+    crate::focus::point_fits(window.frame, moved).then_some(moved)
 }
 
 // The point, placed, if the record names it and it fits.
-fn placed_point(point: FocusLayoutPoint, window: Window, primary: u32, mask: u64) -> Candidate
-    requires { (0 < point.number) × (point.number ≤ 39) }
-    ensures { result ≡ candidate_of (is_listed window primary mask point) (less_origin window point) }
+#[tactic(auto, unfolding(crate::specs::Named::is_listed))]
+fn placed_point(point: FocusLayoutPoint, window: Window, names: Names) -> Option<FocusPoint>
+    ensures { result ≡ candidate_of (is_listed window names.primary names.mask point) (less_origin window point) }
 {
-    if !is_named(point.number, primary, mask) {
-        return Candidate::Out;
+    if is_named(names, point.number) {
+        less_origin(point, window)
+    } else {
+        None
     }
-    less_origin(point, window)
 }
 
 // The points of the table that the record names and that fit, in table order.
-fn listed_points(window: Window, primary: u32, mask: u64) -> PointPlaces
-    ensures { result ≡ point_places (listed_points window primary mask) }
+fn listed_points(window: Window, names: Names) -> PointPlaces
+    ensures { result ≡ point_places (listed_points window names.primary names.mask) }
 {
-    let table = crate::points::table();
     let mut points = crate::load::no_places();
     let mut count: usize = 0;
-    let mut i: usize = 0;
-    while i < 39 {
-        let point = table[i];
-        match placed_point(point, window, primary, mask) {
-            Candidate::In(placed) => {
-                points[count] = placed;
-                count += 1;
-            }
-            Candidate::Out => {}
+    for point in &crate::points::table() {
+        if let Some(placed) = placed_point(*point, window, names) {
+            points[count] = placed;
+            count += 1;
         }
-        i += 1;
     }
     PointPlaces { points, count }
 }
 
-// The index of the first of `count` points that has a number, or `count` where none has it.
-fn index_of(points: [FocusPoint; 39], count: usize, number: u32) -> usize
-    requires { count ≤ 39 }
-    ensures { result ≡ index_of number (take count points) }
+// The index of the first of some points that has a number.
+fn index_of(points: &[FocusPoint], number: u32) -> Option<usize>
+    ensures { result ≡ position (λ (p : FocusPoint). p.number == number) points.now }
 {
-    let mut i: usize = 0;
-    while i < count {
-        let p = points[i];
-        if p.number == number {
-            return i;
-        }
-        i += 1;
-    }
-    i
+    points.iter().position(|point| point.number == number)
 }
 
 // The points named, in their window, with the primary's index among them. Refused where the primary is not listed.
-pub fn placed_in(window: Window, primary: u32, mask: u64, area_mode: FocusAreaMode) -> FocusPoints
-    ensures { focus_means result ≡ laid_out (placed_in (accepted window) primary mask area_mode) }
+pub fn placed_in(
+    window: Window,
+    names: Names,
+    area_mode: FocusAreaMode,
+) -> Result<FocusPoints, Refusal>
+    ensures { focus_means result ≡ laid_out (placed_in (accepted window) names.primary names.mask area_mode) }
 {
-    let listing = listed_points(window, primary, mask);
-    let points = listing.points;
-    let count = listing.count;
-    let index = index_of(points, count, primary);
-    let is_unlisted = count <= index;
-    if is_unlisted {
-        return crate::load::no_points(Refusal::NamesUnplaced);
-    }
-    let frame = window.frame;
-    FocusPoints {
-        answer: FocusAnswer::Accepted,
-        frame,
+    let PointPlaces { points, count } = listed_points(window, names);
+    let Some(index) = index_of(&points[..count], names.primary) else {
+        return Err(Refusal::NamesUnplaced);
+    };
+    Ok(FocusPoints {
+        frame: window.frame,
         points,
         count,
         primary: index,
         area_mode,
         origin: FocusOrigin::Table,
-    }
+    })
 }
 
 // The window of the points that a record names, where the model and the layout code are the table's and the crop is confirmed.
-pub fn window_of(layout_code: u8, model: &[u8], crop: Crop, picture: OptionalSize) -> PlacedFrame
+#[tactic(auto, unfolding(crate::specs::Named::window_of))]
+pub fn window_of(
+    layout_code: u8,
+    model: &[u8],
+    crop: Option<CropHiSpeed>,
+    picture: Option<Size>,
+) -> Option<Window>
     ensures { frame_means result ≡ window_of layout_code model.now crop picture }
 {
-    match crate::points::find(model) {
-        PointTable::NikonD600 => {
-            if layout_code != crate::points::LAYOUT_CODE {
-                return PlacedFrame::Unconfirmed;
-            }
-            placed_frame(crop, picture)
-        }
-        PointTable::NoTable => PlacedFrame::Unconfirmed,
+    let PointTable::NikonD600 = crate::points::find(model)?;
+    if layout_code != crate::points::LAYOUT_CODE {
+        return None;
     }
+    placed_frame(crop, picture)
 }

@@ -5,17 +5,16 @@ ghost use Rattle.placing.specs.Points.{table_of, points};
 use reading::geometry::{Point, Size};
 
 // A point of the table: its number as the camera writes it, the center of its box and the box's size, in the body's full-size frame.
-#[derive(Clone, Copy)]
+#[derive(Clone, Copy, PartialEq, Eq, Debug)]
 pub struct FocusLayoutPoint {
     pub number: u32,
     pub center: Point,
     pub size: Size,
 }
 
-// The table of a body's points, if it has one.
-#[derive(Clone, Copy)]
+// The tables of points, by body.
+#[derive(Clone, Copy, PartialEq, Eq, Debug)]
 pub enum PointTable {
-    NoTable,
     NikonD600,
 }
 
@@ -227,17 +226,16 @@ const POINTS: [FocusLayoutPoint; 39] = [
     },
 ];
 
-// The table of a model's points: the whole name counts.
-pub fn find(model: &[u8]) -> PointTable
+// The table of a model's points, if it has one: the whole name counts.
+#[tactic(auto, unfolding(crate::specs::Points::table_of))]
+pub fn find(model: &[u8]) -> Option<PointTable>
     ensures { result ≡ table_of model.now }
 {
-    if reading::nikon::is_text(model, b"NIKON D600") {
-        return PointTable::NikonD600;
-    }
-    PointTable::NoTable
+    numbers::io::equals(model, b"NIKON D600").then_some(PointTable::NikonD600)
 }
 
 // The D600's table, whole.
+// kept: one constant table, a form that 01 names.
 pub fn table() -> [FocusLayoutPoint; 39]
     ensures { result ≡ points }
 {

@@ -1,26 +1,25 @@
 -- The laws of contents. What the tags are, by induction over the directory's entries: a tag that has been met is wanted no more, so it comes
 -- once, and whatever comes after it is another tag, whose first kept entry stands further on. That no other list is so, by induction over
 -- two lists: with the same numbers and in the same order they begin with the same one. Assumes nothing.
-use Prim.Native.Nat.{ℕ, zero, suc, ◌+◌, ◌*◌, ◌≤◌, ◌<◌}
+use Rattle.std.specs.Prelude.{Option, Some, None}
+use Prim.Native.Nat.{ℕ, zero, suc, ◌+◌, ◌≤◌, ◌<◌}
 use mathlib.Core.Bool.{Bool, true, false, cond, not, ◌&&◌, ◌||◌, and-true, and-false, false≢true}
 use mathlib.Core.List.{List, [], ◌∷◌}
 use mathlib.Core.Logic.{⊎_elim}
 use mathlib.Core.Path.{◌≡◌, refl, sym, ap, ◌∙◌}
 use native.Mathlib.Nat.{zero-add}
 use native.Mathlib.Omega.{arith}
-use lib.Dec.{eqb, leb}
+use lib.Dec.{eqb}
 use lib.ListN.{length, get_or}
 use borrow.Author.Tests.{eqb-true, eq-eqb, not-true}
 use Rattle.laws.proofs.Tests.{by_bool, by_cond, both, eqb_sym}
-use Rattle.reading.specs.Block.{size_of, tag_at, type_at, count_at, offset_at, is_kept_at, has_tag, entry_of, first_of, in_directory, directory_of, find_of, is_kept}
+use Rattle.reading.specs.Block.{tag_at, is_kept_at, has_tag, entry_of, first_of, in_directory, directory_of, find_of, is_kept}
 use Rattle.reading.specs.Contents.{kept_from, kept_in, kept_tags, is_among, without, first_each, four_tags, tags_of}
 use Rattle.reading.specs.Laws.{places_of, EachOnce, entries_before, before_in, before_first, InDirectoryOrder, ContentsAreSo, NoOtherList, FourAtMost}
 use Rattle.reading.proofs.Wanted.{equal_tags, among_without, without_fewer}
 use Rattle.numbers.specs.declared.io.ByteOrder.{ByteOrder}
-use Rattle.reading.specs.declared.ifd.Found.{Found}
-use Rattle.reading.specs.declared.ifd.Found.TheVariants.{Present, Damaged}
+use Rattle.reading.specs.declared.ifd.Entry.{Entry}
 use Rattle.reading.specs.declared.ifd.Ifd.{Ifd}
-use Rattle.reading.specs.declared.ifd.Ifd.TheVariants.{Outside, Inside}
 
 -- ---- four at most
 few : (ws ts : List ℕ) → length (first_each ws ts) ≤ length ws
@@ -56,37 +55,26 @@ once t ws (u ∷ ts) =
     (λ e. once t ws ts ∙ uncounted (eqb u t) (is_among t ws) (is_among t ts) (λ q. equal_tags u t ws q ∙ e))
 
 -- ---- a tag stands among those of the kept entries where it has one
-found_kept : (a b : Bool) (t n near far len : ℕ) → is_kept (cond a (Present t n near len) (cond b (Present t n far len) (Damaged t))) ≡ true
-found_kept true b t n near far len = refl
-found_kept false true t n near far len = refl
-found_kept false false t n near far len = refl
-
-entry_kept : (o : ByteOrder) (s : List ℕ) (at : ℕ) → is_kept (entry_of o s at) ≡ true
-unfolding entry_of
-entry_kept o s at =
-    let len = count_at o s at * size_of (type_at o s at) in
-    found_kept (leb len 4) (leb (offset_at o s at + len) (length s)) (type_at o s at) (count_at o s at) (at + 8) (offset_at o s at) len
-
 -- one entry further, where the entry has the tag or not and is kept or not
-further : (q k : Bool) (l : List ℕ) (u t : ℕ) (e f : Found) → q ≡ eqb u t → is_kept e ≡ true → is_among t l ≡ is_kept f
-    → is_among t (cond k (u ∷ l) l) ≡ is_kept (cond (q && k) e f)
+further : (q k : Bool) (l : List ℕ) (u t : ℕ) (e : Entry) (f : Option Entry) → q ≡ eqb u t → is_among t l ≡ is_kept f
+    → is_among t (cond k (u ∷ l) l) ≡ is_kept (cond (q && k) (Some e) f)
 unfolding is_among
-further true true l u t e f eq ek i = rw (← eq, ek)
-further false true l u t e f eq ek i = rw (← eq) i
-further true false l u t e f eq ek i = i
-further false false l u t e f eq ek i = i
+further true true l u t e f eq i = rw (← eq)
+further false true l u t e f eq i = rw (← eq) i
+further true false l u t e f eq i = i
+further false false l u t e f eq i = i
 
 kept_among : (o : ByteOrder) (s : List ℕ) (t n at : ℕ) → is_among t (kept_from o s at n) ≡ is_kept (first_of o s t at n)
 unfolding kept_from first_of has_tag is_among
 kept_among o s t zero at = refl
 kept_among o s t (suc n) at =
-    further (eqb (tag_at o s at) t) (is_kept_at o s at) (kept_from o s (at + 12) n) (tag_at o s at) t (entry_of o s at) (first_of o s t (at + 12) n) refl (entry_kept o s at)
+    further (eqb (tag_at o s at) t) (is_kept_at o s at) (kept_from o s (at + 12) n) (tag_at o s at) t (entry_of o s at) (first_of o s t (at + 12) n) refl
     (kept_among o s t n (at + 12))
 
-kept_in_lem : (o : ByteOrder) (s : List ℕ) (t : ℕ) (d : Ifd) → is_among t (kept_in o s d) ≡ is_kept (in_directory o s t d)
+kept_in_lem : (o : ByteOrder) (s : List ℕ) (t : ℕ) (d : Option Ifd) → is_among t (kept_in o s d) ≡ is_kept (in_directory o s t d)
 unfolding is_among
-kept_in_lem o s t (Inside first n) = kept_among o s t n first
-kept_in_lem o s t Outside = refl
+kept_in_lem o s t (Some d) = kept_among o s t d.count d.first
+kept_in_lem o s t None = refl
 
 each_once : (o : ByteOrder) (s : List ℕ) → EachOnce o s (tags_of o s)
 unfolding tags_of kept_tags find_of
@@ -180,11 +168,11 @@ rises o s (suc n) at ws =
     rw k (rises_on o s (first_each ws (kept_from o s (at + 12) n)) at n (rises o s n (at + 12) ws) (λ j h. not_kept o s _ at k)))
     (by_bool (is_kept_at o s at))
 
-rises_in : (o : ByteOrder) (s : List ℕ) (d : Ifd) (i j : ℕ) → i < j → j < length (first_each four_tags (kept_in o s d))
+rises_in : (o : ByteOrder) (s : List ℕ) (d : Option Ifd) (i j : ℕ) → i < j → j < length (first_each four_tags (kept_in o s d))
     → before_in o s (get_or (first_each four_tags (kept_in o s d)) i 0) d < before_in o s (get_or (first_each four_tags (kept_in o s d)) j 0) d
 unfolding first_each
-rises_in o s (Inside first n) i j h k = rises o s n first four_tags i j h k
-rises_in o s Outside i j h k = absurd (omega arith)
+rises_in o s (Some d) i j h k = rises o s d.count d.first four_tags i j h k
+rises_in o s None i j h k = absurd (omega arith)
 
 in_directory_order : (o : ByteOrder) (s : List ℕ) → InDirectoryOrder o s (tags_of o s)
 unfolding tags_of kept_tags before_first

@@ -1,88 +1,41 @@
--- Laws of cutting a text at its first zero byte and of trimming spaces: one byte further from the front, or one less from
--- the end, as the loops take them. Assumes nothing.
-use mathlib.Core.Path.{◌≡◌, refl, ◌∙◌, sym, ap}
-use mathlib.Core.List.{List, [], ◌∷◌, ◌++◌, append-nil, reverse, reverse-append, reverse-cons, reverse-reverse}
-use Prim.Native.Nat.{ℕ, zero, suc, ◌+◌, ◌-◌, ◌≤◌, ◌<◌}
-use native.Mathlib.Numerals.{add-one}
+-- Laws of cutting a text at its first zero byte, by where that is, and of trimming spaces, a byte at a time. Assumes nothing.
+use Rattle.std.proofs.Common.{rules, ◌≡◌, ℕ, List, [], ◌∷◌, ◌++◌, Some, None, ◌+◌, ◌≤◌, false, nat_lt}
+use Rattle.std.specs.Prelude.{take, zero, suc, ◌==◌, cond}
+use Rattle.std.specs.List.{position, position_or_len}
+use mathlib.Core.Path.{refl, ap, sym, ◌∙◌}
+use lib.Seq.{take_all}
 use native.Mathlib.Omega.{arith}
-use borrow.Author.Tests.{eq-eqb, ne_eqb}
-use lib.ListN.{length, get_or, take, drop, drop_of_length-le}
-use lib.Seq.{drop-cons, take-suc, take_all, append_snoc}
-use Rattle.reading.specs.Values.{up_to_zero, trim_start, trim_end}
+use mathlib.Core.List.{reverse, reverse-append, reverse-cons, reverse-reverse}
+use borrow.Author.Tests.{ne_eqb}
+use Rattle.reading.specs.Values.{up_to_zero, trim_end, trim_start}
 
-zero_first : (x : ℕ) (xs : List ℕ) → x ≡ 0 → up_to_zero (x ∷ xs) ≡ []
+-- ---- up to the first zero byte
+one_more : (x n : ℕ) (xs : List ℕ) → take (1 + n) (x ∷ xs) ≡ x ∷ take n xs
+one_more x n xs = let e : 1 + n ≡ suc n = omega arith in rw e
+
+is_no_zero : (n : ℕ) → (suc n == 0) ≡ false
+is_no_zero n = search rules
+
+zeros_before : (s : List ℕ) → take (position_or_len (λ byte. byte == 0) s) s ≡ up_to_zero s
 unfolding up_to_zero
-zero_first zero xs e = refl
-zero_first (suc x) xs e = absurd (omega arith)
+zeros_before [] = refl
+zeros_before (zero ∷ xs) = refl
+zeros_before (suc x ∷ xs) = rw (is_no_zero x) (one_more (suc x) _ xs ∙ ap (λ (l : List ℕ). suc x ∷ l) (zeros_before xs))
 
-other_first : (x : ℕ) (xs : List ℕ) → (x ≡ 0 → ⊥) → up_to_zero (x ∷ xs) ≡ x ∷ up_to_zero xs
-unfolding up_to_zero
-other_first zero xs n = absurd (n refl)
-other_first (suc x) xs n = refl
+pub before_zero : (s : List ℕ) (i : ℕ) → position (λ byte. byte == 0) s ≡ Some i → take i s ≡ up_to_zero s
+before_zero s i e = search (rules, zeros_before)
 
--- a text is what was passed, and the rest up to its zero byte
-pub Passed : List ℕ → ℕ → Type 0
-Passed s i = up_to_zero s ≡ take i s ++ up_to_zero (drop i s)
+past_the_end : (n m : ℕ) → cond (nat_lt n m) (Some n) None ≡ None → m ≤ n
+past_the_end n m e = grind (arith, e)
 
-module _ (s : List ℕ) (i : ℕ) (h : i < length s) where
-  pub stop : Passed s i → get_or s i 0 ≡ 0 → take i s ≡ up_to_zero s
-  unfolding Passed
-  stop p e = sym (p ∙ rw (drop-cons s i 0 h, zero_first (get_or s i 0) (drop (suc i) s) e, append-nil))
+pub no_zero : (s : List ℕ) → position (λ byte. byte == 0) s ≡ None → s ≡ up_to_zero s
+no_zero s e = sym (take_all (position_or_len (λ byte. byte == 0) s) s (past_the_end _ _ e)) ∙ zeros_before s
 
-  pub pass : Passed s i → (get_or s i 0 ≡ 0 → ⊥) → Passed s (i + 1)
-  unfolding Passed
-  pass p n =
-      p ∙
-      rw (
-        add-one,
-        take-suc s i 0 h,
-        append_snoc (take i s) (get_or s i 0) (up_to_zero (drop (suc i) s)),
-        drop-cons s i 0 h,
-        other_first (get_or s i 0) (drop (suc i) s) n,
-      )
-
-  -- a byte that is no space stops the trimming at the front
-  pub front_stop : (get_or s i 0 ≡ 32 → ⊥) → drop i s ≡ trim_start (drop i s)
-  unfolding trim_start
-  front_stop n = rw (drop-cons s i 0 h, ne_eqb _ _ n)
-
-  pub front_pass : get_or s i 0 ≡ 32 → trim_start (drop i s) ≡ trim_start (drop (i + 1) s)
-  unfolding trim_start
-  front_pass e = rw (add-one, drop-cons s i 0 h, eq-eqb _ _ e)
-
-pub none_passed : (s : List ℕ) → Passed s 0
-unfolding Passed
-none_passed s = refl
-
-pub no_zero : (s : List ℕ) (i : ℕ) → length s ≤ i → Passed s i → s ≡ up_to_zero s
-unfolding Passed up_to_zero
-no_zero s i h p = sym (p ∙ rw (drop_of_length-le s h, take_all i s h, append-nil))
-
-pub front_end : (s : List ℕ) (i : ℕ) → length s ≤ i → drop i s ≡ trim_start (drop i s)
-unfolding trim_start
-front_end s i h = rw (drop_of_length-le s h)
-
--- one byte at the end
-space_last : (xs : List ℕ) (x : ℕ) → x ≡ 32 → trim_end (xs ++ (x ∷ [])) ≡ trim_end xs
+-- ---- one byte at the end
+pub space_last : (xs : List ℕ) → trim_end (xs ++ (32 ∷ [])) ≡ trim_end xs
 unfolding trim_end trim_start
-space_last xs x e = rw (reverse-append xs (x ∷ []), eq-eqb x 32 e)
+space_last xs = rw (reverse-append xs (32 ∷ []))
 
-other_last : (xs : List ℕ) (x : ℕ) → (x ≡ 32 → ⊥) → trim_end (xs ++ (x ∷ [])) ≡ xs ++ (x ∷ [])
+pub other_last : (xs : List ℕ) (x : ℕ) → (x ≡ 32 → ⊥) → trim_end (xs ++ (x ∷ [])) ≡ xs ++ (x ∷ [])
 unfolding trim_end trim_start
 other_last xs x n = rw (reverse-append xs (x ∷ []), ne_eqb x 32 n, reverse-cons x (reverse xs), reverse-reverse xs)
-
-module _ (s : List ℕ) (n : ℕ) (h : 0 < n) (k : n ≤ length s) where
-  last_out : take n s ≡ take (n - 1) s ++ (get_or s (n - 1) 0 ∷ [])
-  last_out =
-      let e : n ≡ suc (n - 1) = omega arith in
-      ap (λ (m : ℕ). take m s) e ∙ take-suc s (n - 1) 0 (omega arith)
-
-  pub back_stop : (get_or s (n - 1) 0 ≡ 32 → ⊥) → take n s ≡ trim_end (take n s)
-  back_stop e = rw last_out (sym (other_last (take (n - 1) s) (get_or s (n - 1) 0) e))
-
-  pub back_pass : get_or s (n - 1) 0 ≡ 32 → trim_end (take n s) ≡ trim_end (take (n - 1) s)
-  back_pass e = ap trim_end last_out ∙ space_last (take (n - 1) s) (get_or s (n - 1) 0) e
-
-pub back_end : (s : List ℕ) (n : ℕ) → n ≤ 0 → take n s ≡ trim_end (take n s)
-unfolding trim_end trim_start
-back_end s n h = let e : n ≡ 0 = omega arith in rw e

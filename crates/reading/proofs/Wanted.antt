@@ -1,5 +1,7 @@
 -- Tags that are wanted and tags that have been met. The idea: what is still wanted is what is missing among those met, and each tag that
 -- is met makes it fewer; so one entry further is one step of the definition. Assumes nothing.
+use Rattle.std.specs.List.{list_any}
+use Rattle.std.specs.Prelude.{nat_eq}
 use Prim.Native.Nat.{ℕ, zero, suc, ◌+◌, ◌-◌, ◌≤◌, ◌<◌}
 use mathlib.Core.Bool.{Bool, true, false, cond, not, ◌&&◌, ◌||◌, and-false, and-true, or-false, or_assoc, false≢true}
 use mathlib.Core.List.{List, [], ◌∷◌, ◌++◌}
@@ -24,6 +26,12 @@ among_append t (x ∷ xs) ys = rw (among_append t xs ys, or_assoc (eqb x t) (is_
 among_one : (t u : ℕ) → is_among t (u ∷ []) ≡ eqb u t
 unfolding is_among
 among_one t u = or-false (eqb u t)
+
+-- as std says it
+pub among_any : (t : ℕ) (xs : List ℕ) → list_any (λ y. nat_eq y t) xs ≡ is_among t xs
+unfolding is_among
+among_any t [] = refl
+among_any t (x ∷ xs) = rw (among_any t xs)
 
 -- ---- a tag less
 without_long : (t : ℕ) (ws : List ℕ) → length (without t ws) ≤ length ws

@@ -1,24 +1,20 @@
 -- 01: "Contents gives which of the four tags have a kept entry, each once, .., unused places 0." 02, 2026-01: "Tags now come in the order of
 -- their first kept entries in the directory. This replaces 01's open order; unused places are still 0 and stand last."
-use Rattle.std.specs.Prelude.{ℕ, zero, suc, ◌+◌, ◌-◌, Bool, false, cond, ◌||◌, List, [], ◌∷◌, ◌++◌, length, replicate, eqb}
+use Rattle.std.specs.Prelude.{ℕ, zero, suc, ◌+◌, ◌-◌, Bool, false, cond, ◌||◌, List, [], ◌∷◌, ◌++◌, length, replicate, eqb, Option, Some, None}
 use Rattle.reading.specs.Outcome.{Outcome, refused, accepted, and_then}
 use Rattle.reading.specs.Block.{block_of, directory_of, tag_at, is_kept_at}
 use Rattle.numbers.specs.declared.io.ByteOrder.{ByteOrder}
 use Rattle.reading.specs.declared.ifd.Ifd.{Ifd}
-use Rattle.reading.specs.declared.ifd.Ifd.TheVariants.{Outside, Inside}
 use Rattle.reading.specs.declared.ifd.TagList.{TagList}
-use Rattle.reading.specs.declared.nikon.ContentsAnswer.{ContentsAnswer}
-use Rattle.reading.specs.declared.nikon.ContentsAnswer.TheVariants.{Unreadable, Tags}
-use Rattle.reading.specs.declared.nikon.NoteTags.{NoteTags}
 
 -- the tags of the kept entries, damaged or not, in the directory's order: of n entries from `at`
 unfoldable pub kept_from : ByteOrder → List ℕ → ℕ → ℕ → List ℕ
 kept_from o s at zero = []
 kept_from o s at (suc n) = cond (is_kept_at o s at) (tag_at o s at ∷ kept_from o s (at + 12) n) (kept_from o s (at + 12) n)
 
-abbrev pub kept_in : ByteOrder → List ℕ → Ifd → List ℕ
-kept_in o s (Inside first n) = kept_from o s first n
-kept_in o s Outside = []
+abbrev pub kept_in : ByteOrder → List ℕ → Option Ifd → List ℕ
+kept_in o s (Some d) = kept_from o s d.first d.count
+kept_in o s None = []
 
 -- of all entries of the block
 unfoldable pub kept_tags : ByteOrder → List ℕ → List ℕ
@@ -56,16 +52,12 @@ contents_of s = and_then (block_of s) (λ o. accepted (tags_of o s))
 abbrev pub tag_list : List ℕ → TagList
 tag_list ts = record { count = length ts; tags = ts ++ replicate (4 - length ts) 0 }
 
--- refused by 01's number, and no tags; or accepted, with no numbers to give besides, and the tags
-unfoldable pub laid_tags : Outcome (List ℕ) → Outcome (List ℕ) × TagList
-laid_tags (refused n) = (refused n, tag_list [])
-laid_tags (accepted ts) = (accepted [], tag_list ts)
+-- refused by 01's number; or accepted, with the tags
+unfoldable pub laid_tags : Outcome (List ℕ) → Outcome TagList
+laid_tags (refused n) = refused n
+laid_tags (accepted ts) = accepted (tag_list ts)
 
--- what the code's answer means: refused by 01's number, or accepted, with no numbers to give
-abbrev pub contents_answer_means : ContentsAnswer → Outcome (List ℕ)
-contents_answer_means Unreadable = refused 1
-contents_answer_means Tags = accepted []
-
--- what the code's value means: that of its answer, and its tags
-abbrev pub contents_means : NoteTags → Outcome (List ℕ) × TagList
-contents_means r = (contents_answer_means r.answer, r.list)
+-- what the code's value means: refused by 01's number where there is none, or accepted
+abbrev pub contents_means : Option TagList → Outcome TagList
+contents_means None = refused 1
+contents_means (Some l) = accepted l

@@ -1,10 +1,9 @@
 -- What follows of every block's contents, in a reader's words. proofs/Laws.antt proves each.
-use Rattle.std.specs.Prelude.{ℕ, zero, suc, ◌+◌, ◌≤◌, ◌<◌, ◌≡◌, cond, ◌&&◌, List, [], ◌∷◌, length, get_or, eqb}
+use Rattle.std.specs.Prelude.{ℕ, zero, suc, ◌+◌, ◌≤◌, ◌<◌, ◌≡◌, cond, ◌&&◌, List, [], ◌∷◌, length, get_or, eqb, Option, Some, None}
 use Rattle.reading.specs.Block.{directory_of, has_tag, find_of, is_kept}
 use Rattle.reading.specs.Contents.{is_among, four_tags, tags_of}
 use Rattle.numbers.specs.declared.io.ByteOrder.{ByteOrder}
 use Rattle.reading.specs.declared.ifd.Ifd.{Ifd}
-use Rattle.reading.specs.declared.ifd.Ifd.TheVariants.{Outside, Inside}
 
 -- ---- "which of the four tags have a kept entry, each once"
 -- how many places of a list a number has
@@ -22,9 +21,9 @@ unfoldable pub entries_before : ByteOrder → List ℕ → ℕ → ℕ → ℕ �
 entries_before o s tag at zero = 0
 entries_before o s tag at (suc n) = cond (has_tag o s tag at) 0 (suc (entries_before o s tag (at + 12) n))
 
-abbrev pub before_in : ByteOrder → List ℕ → ℕ → Ifd → ℕ
-before_in o s tag (Inside first n) = entries_before o s tag first n
-before_in o s tag Outside = 0
+abbrev pub before_in : ByteOrder → List ℕ → ℕ → Option Ifd → ℕ
+before_in o s tag (Some d) = entries_before o s tag d.first d.count
+before_in o s tag None = 0
 
 -- how many entries of the block do
 unfoldable pub before_first : ByteOrder → List ℕ → ℕ → ℕ

@@ -7,3 +7,4 @@ pub mod Contents
 pub mod Laws
 pub mod Note
 pub mod Inside
+pub mod Geometry

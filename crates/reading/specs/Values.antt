@@ -1,5 +1,5 @@
 -- 01, "Four values": manual focus, the crop, the crop area, and which value is the record (what a record says is in Record).
-use Rattle.std.specs.Prelude.{ℕ, zero, suc, ◌+◌, ◌*◌, Bool, cond, ◌&&◌, ◌||◌, List, [], ◌∷◌, reverse, length, drop, leb, ltb, eqb}
+use Rattle.std.specs.Prelude.{ℕ, zero, suc, ◌+◌, ◌*◌, Bool, cond, ◌&&◌, ◌||◌, List, [], ◌∷◌, reverse, length, drop, leb, ltb, eqb, Option, Some, None}
 use Rattle.numbers.specs.Numbers.{u16_of, u32_of}
 use Rattle.numbers.specs.Bytes.{same}
 use Rattle.reading.specs.Outcome.{Outcome, refused}
@@ -9,12 +9,8 @@ use Rattle.reading.specs.Block.{find_of, is_kept, type_of, count_of, value_of}
 use Rattle.numbers.specs.declared.io.ByteOrder.{ByteOrder}
 use Rattle.reading.specs.declared.geometry.Size.{Size}
 use Rattle.reading.specs.declared.geometry.Point.{Point}
-use Rattle.reading.specs.declared.geometry.OptionalSize.{OptionalSize}
-use Rattle.reading.specs.declared.geometry.OptionalSize.TheVariants.{Missing, Given}
-use Rattle.reading.specs.declared.ifd.Found.{Found}
+use Rattle.reading.specs.declared.ifd.Entry.{Entry}
 use Rattle.reading.specs.declared.nikon.CropHiSpeed.{CropHiSpeed}
-use Rattle.reading.specs.declared.nikon.Crop.{Crop}
-use Rattle.reading.specs.declared.nikon.Crop.TheVariants.{NoCrop, Stated}
 use Rattle.reading.specs.declared.nikon.CropArea.{CropArea}
 use Rattle.reading.specs.declared.nikon.CropArea.TheVariants as area
 
@@ -60,11 +56,11 @@ crop_of o v =
     }
 
 -- "001B, type 3, exactly seven"; "otherwise no crop"
-unfoldable pub crop_hi_speed_of : ByteOrder → List ℕ → Crop
+unfoldable pub crop_hi_speed_of : ByteOrder → List ℕ → Option CropHiSpeed
 crop_hi_speed_of o s =
     cond (eqb (type_of (find_of o s 27)) 3 && eqb (count_of (find_of o s 27)) 7)
-    (Stated (crop_of o (value_of s (find_of o s 27))))
-    NoCrop
+    (Some (crop_of o (value_of s (find_of o s 27))))
+    None
 
 -- "type 3 or 4, exactly four values"
 unfoldable pub is_rectangle : ℕ → ℕ → Bool
@@ -80,20 +76,20 @@ inside_raw raw at size =
     area.Unusable
 
 -- "left, top, width, height, the raw size is given"
-unfoldable pub window_in : OptionalSize → ByteOrder → ℕ → List ℕ → CropArea
-window_in Missing o t v = area.Unusable
-window_in (Given raw) o t v =
+unfoldable pub window_in : Option Size → ByteOrder → ℕ → List ℕ → CropArea
+window_in None o t v = area.Unusable
+window_in (Some raw) o t v =
     inside_raw raw
     (record { x = number_at o t v 0; y = number_at o t v 1 })
     (record { width = number_at o t v 2; height = number_at o t v 3 })
 
 -- "absent without a kept entry; a window if ..; else unusable"
-abbrev pub area_in : ByteOrder → List ℕ → OptionalSize → Found → CropArea
+abbrev pub area_in : ByteOrder → List ℕ → Option Size → Option Entry → CropArea
 area_in o s raw f =
     cond (is_kept f) (cond (is_rectangle (type_of f) (count_of f)) (window_in raw o (type_of f) (value_of s f)) area.Unusable) area.Absent
 
 -- "0045"
-unfoldable pub crop_area_of : ByteOrder → List ℕ → OptionalSize → CropArea
+unfoldable pub crop_area_of : ByteOrder → List ℕ → Option Size → CropArea
 crop_area_of o s raw = area_in o s raw (find_of o s 69)
 
 -- "first kept entry for tag 00B7 (hexadecimal) absent or not type 7": 2; "record value damaged": 4, as no value has a version

@@ -9,26 +9,19 @@ use crate::focus::{FocusAreaMode, InFocus};
 use crate::geometry::{Point, Size};
 use numbers::io::{ByteOrder, Pair};
 
-// Where a layout keeps something, if it does.
-#[derive(Clone, Copy)]
-pub enum Place {
-    Nowhere,
-    At(usize),
-}
-
 // Where a record keeps its frame, centre, area, in-focus byte and names, and how long it is at least.
-#[derive(Clone, Copy)]
+#[derive(Clone, Copy, PartialEq, Eq, Debug)]
 pub struct Layout {
     pub min_len: usize,
     pub frame: usize,
     pub center: usize,
     pub area: usize,
-    pub in_focus: Place,
-    pub named: Place,
+    pub in_focus: Option<usize>,
+    pub named: Option<usize>,
 }
 
 // A version's text, and which of the layouts it has.
-#[derive(Clone, Copy)]
+#[derive(Clone, Copy, PartialEq, Eq, Debug)]
 pub struct Version {
     pub text: [u8; 4],
     pub layout: usize,
@@ -41,284 +34,228 @@ const LAYOUTS: [Layout; 4] = [
         frame: 16,
         center: 20,
         area: 24,
-        in_focus: Place::At(28),
-        named: Place::At(6),
+        in_focus: Some(28),
+        named: Some(6),
     },
     Layout {
         min_len: 84,
         frame: 70,
         center: 74,
         area: 78,
-        in_focus: Place::At(82),
-        named: Place::Nowhere,
+        in_focus: Some(82),
+        named: None,
     },
     Layout {
         min_len: 60,
         frame: 42,
         center: 46,
         area: 50,
-        in_focus: Place::Nowhere,
-        named: Place::Nowhere,
+        in_focus: None,
+        named: None,
     },
     Layout {
         min_len: 80,
         frame: 62,
         center: 66,
         area: 70,
-        in_focus: Place::At(74),
-        named: Place::Nowhere,
+        in_focus: Some(74),
+        named: None,
     },
 ];
 
-// The seven versions: 0100, 0101, 0300, 0301, 0400, 0401, 0402.
+// The seven versions.
+// kept: they share four layouts, so each has the index of its own, as in 01's table; what stands past the table is never read.
 const VERSIONS: [Version; 7] = [
     Version {
-        text: [48, 49, 48, 48],
+        text: *b"0100",
         layout: 0,
     },
     Version {
-        text: [48, 49, 48, 49],
+        text: *b"0101",
         layout: 1,
     },
     Version {
-        text: [48, 51, 48, 48],
+        text: *b"0300",
         layout: 2,
     },
     Version {
-        text: [48, 51, 48, 49],
+        text: *b"0301",
         layout: 2,
     },
     Version {
-        text: [48, 52, 48, 48],
+        text: *b"0400",
         layout: 3,
     },
     Version {
-        text: [48, 52, 48, 49],
+        text: *b"0401",
         layout: 3,
     },
     Version {
-        text: [48, 52, 48, 50],
+        text: *b"0402",
         layout: 3,
     },
 ];
 
-// The layout of a record, if its version is one of the seven.
-#[derive(Clone, Copy)]
-pub enum KnownLayout {
-    Unknown,
-    Known(Layout),
-}
+// What stands past the table of layouts.
+const NO_LAYOUT: Layout = Layout {
+    min_len: 0,
+    frame: 0,
+    center: 0,
+    area: 0,
+    in_focus: None,
+    named: None,
+};
 
+// The layout at an index of the table.
 fn layout_at(i: usize) -> Layout
     ensures { result ≡ get_or layouts i no_layout }
 {
-    if i < 4 {
-        let l = LAYOUTS[i];
-        return l;
-    }
-    Layout {
-        min_len: 0,
-        frame: 0,
-        center: 0,
-        area: 0,
-        in_focus: Place::Nowhere,
-        named: Place::Nowhere,
-    }
+    LAYOUTS.get(i).copied().unwrap_or(NO_LAYOUT)
 }
 
-fn version_at(i: usize) -> Version
-    requires { i < 7 }
-    ensures { result ≡ get_or versions i no_version }
-{
-    let v = VERSIONS[i];
-    v
-}
-
-// The layout of the version that the first four bytes of a record name.
-fn layout_of(value: &[u8]) -> KnownLayout
+// The layout of the version that the first four bytes of a record name, if it is one of the seven.
+fn layout_of(value: &[u8]) -> Option<Layout>
     ensures { result ≡ layout_of value.now }
 {
     let start = numbers::io::head(value, 4);
-    let mut i: usize = 0;
-    while i < 7 {
-        let v = version_at(i);
-        let text = v.text;
-        if numbers::io::equals(start, &text) {
-            return KnownLayout::Known(layout_at(v.layout));
+    for version in &VERSIONS {
+        if numbers::io::equals(start, &version.text) {
+            return Some(layout_at(version.layout));
         }
-        i += 1;
     }
-    KnownLayout::Unknown
+    None
 }
 
-// A mode that only the detection method 0 has.
-fn if_zero(detection: u8, mode: FocusAreaMode) -> FocusAreaMode
-    ensures { result ≡ if_zero detection mode }
-{
-    if detection == 0 {
-        return mode;
-    }
-    FocusAreaMode::NoMode
-}
-
-// The area mode that bytes 4 and 5 of a record name.
+// The area mode that bytes 4 and 5 of a record name: the detection method and the mode's code.
+#[tactic(auto, unfolding(crate::specs::Record::area_mode_of))]
 pub fn area_mode(detection: u8, code: u8) -> FocusAreaMode
     ensures { result ≡ area_mode_of detection code }
 {
-    match code {
-        193 => FocusAreaMode::Single,
-        197 => FocusAreaMode::Auto,
-        0 => if_zero(detection, FocusAreaMode::Single),
-        5 => if_zero(detection, FocusAreaMode::Dynamic),
-        8 => if_zero(detection, FocusAreaMode::Auto),
-        9 => if_zero(detection, FocusAreaMode::Tracking),
-        207 => {
-            if detection == 1 {
-                return FocusAreaMode::Tracking;
-            }
-            if detection == 2 {
-                return FocusAreaMode::Tracking;
-            }
-            FocusAreaMode::NoMode
-        }
+    match (detection, code) {
+        (_, 193) | (0, 0) => FocusAreaMode::Single,
+        (0, 5) => FocusAreaMode::Dynamic,
+        (_, 197) | (0, 8) => FocusAreaMode::Auto,
+        (0, 9) | (1 | 2, 207) => FocusAreaMode::Tracking,
         _ => FocusAreaMode::NoMode,
     }
 }
 
 // The in-focus byte, where the layout has one.
-fn in_focus_at(value: &[u8], place: Place) -> InFocus
+#[tactic(auto, unfolding(crate::specs::Record::by_byte))]
+fn in_focus_at(value: &[u8], place: Option<usize>) -> InFocus
     ensures { result ≡ in_focus_of place value.now }
 {
-    match place {
-        Place::At(at) => {
-            let byte = numbers::io::u8_at(value, at);
-            if byte == 0 {
-                return InFocus::No;
-            }
-            if byte == 1 {
-                return InFocus::Yes;
-            }
-            InFocus::Unrecorded
-        }
-        Place::Nowhere => InFocus::Unrecorded,
+    let Some(at) = place else {
+        return InFocus::Unrecorded;
+    };
+    match numbers::io::u8_at(value, at) {
+        0 => InFocus::No,
+        1 => InFocus::Yes,
+        _ => InFocus::Unrecorded,
     }
 }
 
 // The points that a record names: the layout code of their numbers, the primary's number, and the mask of
 // the points used, one bit each.
-#[derive(Clone, Copy)]
-pub enum NamedPoints {
-    NoNames,
-    Named {
-        layout_code: u8,
-        primary: u8,
-        mask: u64,
-    },
+#[derive(Clone, Copy, PartialEq, Eq, Debug)]
+pub struct NamedPoints {
+    pub layout_code: u8,
+    pub primary: u8,
+    pub mask: u64,
 }
 
 // Seven bytes as one number, least significant first.
+#[tactic(auto, unfolding(crate::specs::Record::mask_of))]
 fn mask_of(s: &[u8]) -> u64
     ensures { result ≡ mask_of s.now }
 {
-    let low = numbers::io::u32_of(s, ByteOrder::Little) as u64;
-    let middle = numbers::io::u16_of(numbers::io::tail(s, 4), ByteOrder::Little) as u64;
-    let high = numbers::io::u8_at(s, 6) as u64;
-    low + 4294967296 * middle + 281474976710656 * high
+    u64::from_le_bytes([
+        numbers::io::u8_at(s, 0),
+        numbers::io::u8_at(s, 1),
+        numbers::io::u8_at(s, 2),
+        numbers::io::u8_at(s, 3),
+        numbers::io::u8_at(s, 4),
+        numbers::io::u8_at(s, 5),
+        numbers::io::u8_at(s, 6),
+        0,
+    ])
 }
 
-fn named_points(value: &[u8], place: Place) -> NamedPoints
+// The points that a record names, where the layout has names.
+fn named_points(value: &[u8], place: Option<usize>) -> Option<NamedPoints>
     ensures { result ≡ named_of place value.now }
 {
-    match place {
-        Place::At(at) => {
-            let names = numbers::io::tail(value, at);
-            NamedPoints::Named {
-                layout_code: numbers::io::u8_at(names, 0),
-                primary: numbers::io::u8_at(names, 1),
-                mask: mask_of(numbers::io::tail(names, 2)),
-            }
-        }
-        Place::Nowhere => NamedPoints::NoNames,
-    }
+    let names = numbers::io::tail(value, place?);
+    Some(NamedPoints {
+        layout_code: numbers::io::u8_at(names, 0),
+        primary: numbers::io::u8_at(names, 1),
+        mask: mask_of(numbers::io::tail(names, 2)),
+    })
 }
 
 // What a record says of the focus point.
-#[derive(Clone, Copy)]
+#[derive(Clone, Copy, PartialEq, Eq, Debug)]
 pub struct FocusRecord {
     pub frame: Size,
     pub center: Point,
     pub area: Size,
     pub in_focus: InFocus,
     pub area_mode: FocusAreaMode,
-    pub named: NamedPoints,
+    pub named: Option<NamedPoints>,
 }
 
-// A record, or why there is none: no entry of its type, or a value that cannot be used.
-#[derive(Clone, Copy)]
-pub enum AfInfo2 {
+// Why there is no record: there is no entry of its type, or its value cannot be used.
+#[derive(Clone, Copy, PartialEq, Eq, Debug)]
+pub enum RecordRefusal {
     NoRecord,
     BadRecord,
-    Said(FocusRecord),
 }
 
-// The pair that starts at `at`: the pair reader is handed the part of the value from there on.
+// The pair that starts at `at`.
+// kept: the pair reader is handed the part of the value from there on, a form that 01 names.
 fn shorts_at(value: &[u8], at: usize, order: ByteOrder) -> Pair
     ensures { result ≡ shorts_of order (drop at value.now) }
 {
-    if value.len() < at {
-        return numbers::io::shorts(&value[..0], order);
-    }
-    numbers::io::shorts(&value[at..], order)
+    numbers::io::shorts(numbers::io::tail(value, at), order)
 }
 
+#[tactic(auto, unfolding(crate::specs::Record::size_at))]
 fn size_at(value: &[u8], at: usize, order: ByteOrder) -> Size
     ensures { result ≡ size_at order value.now at }
 {
     let pair = shorts_at(value, at, order);
     Size {
-        width: pair.first as u32,
-        height: pair.second as u32,
+        width: u32::from(pair.first),
+        height: u32::from(pair.second),
     }
 }
 
+#[tactic(auto, unfolding(crate::specs::Record::record_in))]
 fn record_in(value: &[u8], order: ByteOrder, layout: Layout) -> FocusRecord
     ensures { result ≡ record_in order value.now layout }
 {
-    let frame_place = layout.frame;
-    let center_place = layout.center;
-    let area_place = layout.area;
-    let in_focus_place = layout.in_focus;
-    let named_place = layout.named;
-    let frame = size_at(value, frame_place, order);
-    let center = size_at(value, center_place, order);
-    let area = size_at(value, area_place, order);
-    let in_focus = in_focus_at(value, in_focus_place);
-    let area_mode = area_mode(numbers::io::u8_at(value, 4), numbers::io::u8_at(value, 5));
-    let named = named_points(value, named_place);
+    let center = size_at(value, layout.center, order);
     FocusRecord {
-        frame,
+        frame: size_at(value, layout.frame, order),
         center: Point {
             x: center.width,
             y: center.height,
         },
-        area,
-        in_focus,
-        area_mode,
-        named,
+        area: size_at(value, layout.area, order),
+        in_focus: in_focus_at(value, layout.in_focus),
+        area_mode: area_mode(numbers::io::u8_at(value, 4), numbers::io::u8_at(value, 5)),
+        named: named_points(value, layout.named),
     }
 }
 
 // What the value of a record says.
-pub fn af_info2_record(value: &[u8], order: ByteOrder) -> AfInfo2
+#[tactic(auto, unfolding(crate::specs::Record::record_of))]
+pub fn af_info2_record(value: &[u8], order: ByteOrder) -> Result<FocusRecord, RecordRefusal>
     ensures { record_means result ≡ record_of order value.now }
 {
-    match layout_of(value) {
-        KnownLayout::Known(known) => {
-            if value.len() < known.min_len {
-                return AfInfo2::BadRecord;
-            }
-            AfInfo2::Said(record_in(value, order, known))
-        }
-        KnownLayout::Unknown => AfInfo2::BadRecord,
+    let layout = layout_of(value).ok_or(RecordRefusal::BadRecord)?;
+    if value.len() < layout.min_len {
+        return Err(RecordRefusal::BadRecord);
     }
+    Ok(record_in(value, order, layout))
 }

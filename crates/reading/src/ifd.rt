@@ -1,72 +1,82 @@
 // A block, its directory (IFD), the first kept entry of a tag, that entry's value, and which of some tags have a kept entry.
-ghost use Rattle.std.specs.Prelude.{◌≡◌, ◌&&◌, not, ◌+◌, ◌*◌, ◌≤◌, ◌<◌, length, drop};
+ghost use Rattle.std.specs.Prelude.{◌≡◌, ◌&&◌, not, ◌+◌, ◌*◌, ◌≤◌, ◌<◌, length, drop, Some};
 ghost use Rattle.numbers.specs.Numbers.{u16_of};
-ghost use Rattle.reading.specs.Block.{block_means, block_of, in_order, directory_of, entry_of, tag_at, is_kept_at, has_tag, first_of, find_of, is_kept, type_of, count_of, value_of};
+ghost use Rattle.reading.specs.Block.{block_means, block_of, in_order, directory_of, entry_of, tag_at, is_kept_at, has_tag, first_of, find_of};
 ghost use Rattle.reading.specs.Contents.{kept_from, kept_tags, is_among, first_each, tag_list};
 
 use numbers::io::ByteOrder;
 
-// Whether a block can be read, and in which byte order.
-#[derive(Clone, Copy)]
-pub enum Block {
-    Unreadable,
-    Readable(ByteOrder),
-}
-
 // A directory that lies inside its block: where its first entry starts, and how many it has.
-#[derive(Clone, Copy)]
-pub enum Ifd {
-    Outside,
-    Inside { first: usize, count: usize },
+#[derive(Clone, Copy, PartialEq, Eq, Debug)]
+pub struct Ifd {
+    pub first: usize,
+    pub count: usize,
 }
 
-// The first kept entry of a tag: its type, its count, and which part of the block its value is.
-#[derive(Clone, Copy)]
-pub enum Found {
-    Absent,
-    Damaged {
-        typ: u16,
-    },
-    Present {
-        typ: u16,
-        count: u32,
-        start: usize,
-        len: usize,
-    },
+// How many values an entry has, and which part of the block they are.
+#[derive(Clone, Copy, PartialEq, Eq, Debug)]
+pub struct Value {
+    pub count: u32,
+    pub start: usize,
+    pub len: usize,
 }
 
-// The directory at the offset in bytes 4 to 7.
-pub fn parse_ifd(block: &[u8], order: ByteOrder) -> Ifd
+// An entry: its type, and its value unless that is damaged.
+#[derive(Clone, Copy, PartialEq, Eq, Debug)]
+pub struct Entry {
+    pub typ: u16,
+    pub value: Option<Value>,
+}
+
+impl Entry {
+    ghost use Rattle.reading.specs.Block.{count_of, value_of};
+
+    // How many values it has; a damaged one counts as none.
+    pub fn count(self) -> u32
+        ensures { result ≡ count_of (Some self) }
+    {
+        self.value.map_or(0, |value| value.count)
+    }
+
+    // Its value; nothing of a damaged one.
+    // kept: the value is that part of the lent block, inline or far, looked up there, a form that 01 names.
+    pub fn value_in(self, block: &[u8]) -> &[u8]
+        ensures { result.now ≡ value_of block.now (Some self) }
+    {
+        match self.value {
+            Some(value) => numbers::io::head(numbers::io::tail(block, value.start), value.len),
+            None => &[],
+        }
+    }
+}
+
+// The directory at the offset in bytes 4 to 7; none where it passes the block's end.
+#[tactic(auto, unfolding(crate::specs::Block::directory_of, crate::specs::Block::offset_of, crate::specs::Block::entry_count))]
+pub fn parse_ifd(block: &[u8], order: ByteOrder) -> Option<Ifd>
     ensures { result ≡ directory_of order block.now }
 {
     let offset = numbers::io::u32_of(numbers::io::tail(block, 4), order) as usize;
-    let count = numbers::io::u16_of(numbers::io::tail(block, offset), order) as usize;
+    let count = usize::from(numbers::io::u16_of(numbers::io::tail(block, offset), order));
     let first = offset + 2;
-    if first + 12 * count <= block.len() {
-        return Ifd::Inside { first, count };
-    }
-    Ifd::Outside
+    (first + 12 * count <= block.len()).then_some(Ifd { first, count })
 }
 
-fn block_in(block: &[u8], order: ByteOrder) -> Block
+// The byte order, where the block's directory lies inside it.
+#[tactic(auto, unfolding(crate::specs::Block::in_order))]
+fn block_in(block: &[u8], order: ByteOrder) -> Option<ByteOrder>
     ensures { block_means result ≡ in_order order block.now }
 {
-    match parse_ifd(block, order) {
-        Ifd::Inside { first: _, count: _ } => Block::Readable(order),
-        Ifd::Outside => Block::Unreadable,
-    }
+    parse_ifd(block, order).map(|_| order)
 }
 
-// Whether the block is one that can be read: its length, its header, and its directory.
+// kept: `equals` and no match of byte patterns: tried, the check leaves nine goals open, one for each byte that differs.
+// The byte order of a block that can be read, by its length, its header, and its directory; none of any other.
 #[tactic(auto, unfolding(crate::specs::Block::block_of, crate::specs::Block::by_mark))]
-pub fn parse_block(block: &[u8]) -> Block
+pub fn parse_block(block: &[u8]) -> Option<ByteOrder>
     ensures { block_means result ≡ block_of block.now }
 {
-    if block.len() < 8 {
-        return Block::Unreadable;
-    }
-    if 1048576 < block.len() {
-        return Block::Unreadable;
+    if !(8..=1_048_576).contains(&block.len()) {
+        return None;
     }
     let mark = numbers::io::head(block, 4);
     if numbers::io::equals(mark, b"II*\0") {
@@ -75,44 +85,32 @@ pub fn parse_block(block: &[u8]) -> Block
     if numbers::io::equals(mark, b"MM\0*") {
         return block_in(block, ByteOrder::Big);
     }
-    Block::Unreadable
+    None
 }
 
-// The 16-bit number at `at`, which lies inside the block.
+// The 16-bit number at `at`.
 fn u16_at(block: &[u8], at: usize, order: ByteOrder) -> u16
-    requires { at + 2 ≤ length block.now }
     ensures { result ≡ u16_of order (drop at block.now) }
 {
-    numbers::io::joined_bytes(order, block[at], block[at + 1])
+    numbers::io::u16_of(numbers::io::tail(block, at), order)
 }
 
+// kept: `at + 12 ≤ length` in four private contracts below; the entry's bytes in its place would lose where it stands, which its value
+// inside it needs.
 // The entry whose 12 bytes start at `at`.
-fn entry_at(block: &[u8], order: ByteOrder, at: usize) -> Found
+#[tactic(auto, unfolding(crate::specs::Block::entry_of))]
+fn entry_at(block: &[u8], order: ByteOrder, at: usize) -> Entry
     requires { at + 12 ≤ length block.now }
     ensures { result ≡ entry_of order block.now at }
 {
     let typ = u16_at(block, at + 2, order);
     let count = numbers::io::u32_of(numbers::io::tail(block, at + 4), order);
     let field = at + 8;
-    let len = (count as usize) * (crate::types::type_size(typ) as usize);
-    if len <= 4 {
-        return Found::Present {
-            typ,
-            count,
-            start: field,
-            len,
-        };
-    }
-    let offset = numbers::io::u32_of(numbers::io::tail(block, field), order) as usize;
-    if offset + len <= block.len() {
-        return Found::Present {
-            typ,
-            count,
-            start: offset,
-            len,
-        };
-    }
-    Found::Damaged { typ }
+    let len = count as usize * usize::from(crate::types::type_size(typ));
+    let far = numbers::io::u32_of(numbers::io::tail(block, field), order) as usize;
+    let start = if len <= 4 { field } else { far };
+    let value = (len <= 4 || far + len <= block.len()).then_some(Value { count, start, len });
+    Entry { typ, value }
 }
 
 // Whether the entry at `at` is kept.
@@ -124,109 +122,40 @@ fn is_kept_at(block: &[u8], order: ByteOrder, at: usize) -> bool
 }
 
 // Whether the entry at `at` is kept and has the tag.
+#[tactic(auto, unfolding(crate::specs::Block::has_tag))]
 fn has_tag(block: &[u8], order: ByteOrder, at: usize, tag: u16) -> bool
     requires { at + 12 ≤ length block.now }
     ensures { result ≡ has_tag order block.now tag at }
 {
-    if u16_at(block, at, order) != tag {
-        return false;
-    }
-    is_kept_at(block, order, at)
+    u16_at(block, at, order) == tag && is_kept_at(block, order, at)
 }
 
-// The first kept entry with the tag, of `count` entries from `first`.
-fn first_of(block: &[u8], order: ByteOrder, first: usize, count: usize, tag: u16) -> Found
-    requires { first + 12 * count ≤ length block.now }
-    ensures { result ≡ first_of order block.now tag first count }
+// The first kept entry with the tag, of a directory's.
+#[tactic(auto, using(crate::proofs::Entries::hit, crate::proofs::Entries::passed_over, crate::proofs::Entries::none_left))]
+fn first_of(block: &[u8], order: ByteOrder, directory: Ifd, tag: u16) -> Option<Entry>
+    requires { directory.first + 12 * directory.count ≤ length block.now }
+    ensures { result ≡ first_of order block.now tag directory.first directory.count }
 {
-    let mut at = first;
-    let mut left = count;
-    while 0 < left {
+    for i in 0..directory.count {
+        let at = directory.first + 12 * i;
         if has_tag(block, order, at, tag) {
-            return entry_at(block, order, at);
+            return Some(entry_at(block, order, at));
         }
-        at += 12;
-        left -= 1;
     }
-    Found::Absent
+    None
 }
 
-// The block's first kept entry with the tag; absent where the directory passes the block's end.
-pub fn find_entry(block: &[u8], order: ByteOrder, tag: u16) -> Found
+// The block's first kept entry with the tag; none where the directory passes the block's end.
+#[tactic(auto, using(crate::proofs::Entries::entries_inside), unfolding(crate::specs::Block::find_of))]
+pub fn find_entry(block: &[u8], order: ByteOrder, tag: u16) -> Option<Entry>
     ensures { result ≡ find_of order block.now tag }
 {
-    match parse_ifd(block, order) {
-        Ifd::Inside { first, count } => first_of(block, order, first, count, tag),
-        Ifd::Outside => Found::Absent,
-    }
-}
-
-// Whether there is a kept entry, damaged or not.
-pub fn is_kept(found: Found) -> bool
-    ensures { result ≡ is_kept found }
-{
-    match found {
-        Found::Present {
-            typ: _,
-            count: _,
-            start: _,
-            len: _,
-        } => true,
-        Found::Damaged { typ: _ } => true,
-        Found::Absent => false,
-    }
-}
-
-// The type of an entry, damaged or not; 0 where there is none.
-pub fn type_of(found: Found) -> u16
-    ensures { result ≡ type_of found }
-{
-    match found {
-        Found::Present {
-            typ,
-            count: _,
-            start: _,
-            len: _,
-        } => typ,
-        Found::Damaged { typ } => typ,
-        Found::Absent => 0,
-    }
-}
-
-// How many values an entry has; a damaged one counts as none.
-pub fn count_of(found: Found) -> u32
-    ensures { result ≡ count_of found }
-{
-    match found {
-        Found::Present {
-            typ: _,
-            count,
-            start: _,
-            len: _,
-        } => count,
-        Found::Damaged { typ: _ } => 0,
-        Found::Absent => 0,
-    }
-}
-
-// The value of an entry: that part of the lent block, inline or far; nothing of a damaged or an absent one.
-pub fn value_of(block: &[u8], found: Found) -> &[u8]
-    ensures { result.now ≡ value_of block.now found }
-{
-    match found {
-        Found::Present {
-            typ: _,
-            count: _,
-            start,
-            len,
-        } => numbers::io::head(numbers::io::tail(block, start), len),
-        Found::Damaged { typ: _ } => numbers::io::head(block, 0),
-        Found::Absent => numbers::io::head(block, 0),
-    }
+    first_of(block, order, parse_ifd(block, order)?, tag)
 }
 
 // Some tags in four places: how many, and the tags; the places behind them are 0.
-#[derive(Clone, Copy)]
+// kept: fixed memory, as the project's rule is, so the places have a count beside them.
+#[derive(Clone, Copy, PartialEq, Eq, Debug)]
 pub struct TagList {
     pub count: usize,
     pub tags: [u16; 4],
@@ -236,14 +165,7 @@ pub struct TagList {
 fn is_among(tag: u16, tags: &[u16]) -> bool
     ensures { result ≡ is_among tag tags.now }
 {
-    let mut i: usize = 0;
-    while i < tags.len() {
-        if tags[i] == tag {
-            return true;
-        }
-        i += 1;
-    }
-    false
+    tags.contains(&tag)
 }
 
 // Whether the entry at `at` is kept, and is the first one of a wanted tag: of one that has not been met.
@@ -252,42 +174,34 @@ fn is_first(block: &[u8], order: ByteOrder, at: usize, wanted: &[u16], met: &[u1
     ensures { result ≡ (is_among (tag_at order block.now at) wanted.now && not (is_among (tag_at order block.now at) met.now) && is_kept_at order block.now at) }
 {
     let tag = u16_at(block, at, order);
-    if !is_among(tag, wanted) {
-        return false;
-    }
-    if is_among(tag, met) {
-        return false;
-    }
-    is_kept_at(block, order, at)
+    is_among(tag, wanted) && !is_among(tag, met) && is_kept_at(block, order, at)
 }
 
-// The wanted tags that have a kept entry, in the order of their first ones, of `count` entries from `first`.
-fn tags_from(block: &[u8], order: ByteOrder, first: usize, count: usize, wanted: &[u16]) -> TagList
-    requires { (first + 12 * count ≤ length block.now) × (length wanted.now ≤ 4) }
-    ensures { result ≡ tag_list (first_each wanted.now (kept_from order block.now first count)) }
+// The wanted tags that have a kept entry, in the order of their first ones, of a directory's entries.
+fn tags_from(block: &[u8], order: ByteOrder, directory: Ifd, wanted: &[u16]) -> TagList
+    requires { (directory.first + 12 * directory.count ≤ length block.now) × (length wanted.now ≤ 4) }
+    ensures { result ≡ tag_list (first_each wanted.now (kept_from order block.now directory.first directory.count)) }
 {
     let mut tags = [0u16; 4];
     let mut met: usize = 0;
-    let mut at = first;
-    let mut left = count;
-    while 0 < left {
+    for i in 0..directory.count {
+        let at = directory.first + 12 * i;
         if is_first(block, order, at, wanted, &tags[..met]) {
             tags[met] = u16_at(block, at, order);
             met += 1;
         }
-        at += 12;
-        left -= 1;
     }
     TagList { count: met, tags }
 }
 
 // The wanted tags that have a kept entry, in the order of their first ones in the directory; none where it passes the block's end.
+#[tactic(auto, using(crate::proofs::Entries::entries_inside), unfolding(crate::specs::Contents::kept_tags, crate::specs::Contents::first_each))]
 pub fn find_tags(block: &[u8], order: ByteOrder, wanted: [u16; 4]) -> TagList
     ensures { result ≡ tag_list (first_each wanted (kept_tags order block.now)) }
 {
     match parse_ifd(block, order) {
-        Ifd::Inside { first, count } => tags_from(block, order, first, count, &wanted),
-        Ifd::Outside => TagList {
+        Some(directory) => tags_from(block, order, directory, &wanted),
+        None => TagList {
             count: 0,
             tags: [0; 4],
         },

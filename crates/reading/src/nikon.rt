@@ -1,13 +1,14 @@
 // What the Nikon maker note says of focus: the four values, the record, and which of their tags are there.
-ghost use Rattle.std.specs.Prelude.{◌≡◌, ◌<◌};
-ghost use Rattle.numbers.specs.Bytes.{same};
+ghost use Rattle.std.specs.Prelude.{◌≡◌, ◌<◌, ◌==◌};
+ghost use Rattle.std.specs.List.{position};
 ghost use Rattle.reading.specs.Values.{up_to_zero, trim_start, trim_end, is_manual, manual_focus_of, number_at, crop_hi_speed_of, is_rectangle, inside_raw, crop_area_of, af_info2_of};
+ghost use Rattle.reading.specs.Geometry.{corner_of, size_of};
 ghost use Rattle.reading.specs.Record.{record_means};
 ghost use Rattle.reading.specs.Contents.{contents_of, laid_tags, contents_means};
 
-use crate::afinfo::AfInfo2;
-use crate::geometry::{OptionalSize, Point, Size};
-use crate::ifd::{Block, TagList};
+use crate::afinfo::{FocusRecord, RecordRefusal};
+use crate::geometry::{Point, Rectangle, Size};
+use crate::ifd::TagList;
 use numbers::io::ByteOrder;
 
 // FocusMode: text.
@@ -19,54 +20,46 @@ pub const CROP_AREA: u16 = 0x0045;
 // AFInfo2: the focus record.
 pub const AF_INFO2: u16 = 0x00B7;
 
+// Where the first zero byte of a text is.
+fn first_zero(s: &[u8]) -> Option<usize>
+    ensures { result ≡ position (λ byte. byte == 0) s.now }
+{
+    s.iter().position(|&byte| byte == 0)
+}
+
 // The front of a text, up to its first zero byte.
+#[tactic(auto, using(crate::proofs::Text::before_zero, crate::proofs::Text::no_zero))]
 fn up_to_zero(s: &[u8]) -> &[u8]
     ensures { result.now ≡ up_to_zero s.now }
 {
-    let mut i: usize = 0;
-    while i < s.len() {
-        if s[i] == 0 {
-            return numbers::io::head(s, i);
-        }
-        i += 1;
+    match first_zero(s) {
+        Some(zero) => numbers::io::head(s, zero),
+        None => s,
     }
-    s
 }
 
 // A text without the spaces at its front.
+#[tactic(auto, unfolding(crate::specs::Values::trim_start))]
 fn trim_start(s: &[u8]) -> &[u8]
     ensures { result.now ≡ trim_start s.now }
 {
-    let mut i: usize = 0;
-    while i < s.len() {
-        if s[i] != b' ' {
-            return numbers::io::tail(s, i);
-        }
-        i += 1;
+    let mut rest = s;
+    while let [b' ', behind @ ..] = rest {
+        rest = behind;
     }
-    numbers::io::tail(s, i)
+    rest
 }
 
 // A text without the spaces at its end.
+#[tactic(auto, using(crate::proofs::Text::space_last, crate::proofs::Text::other_last), unfolding(crate::specs::Values::trim_end, crate::specs::Values::trim_start))]
 fn trim_end(s: &[u8]) -> &[u8]
     ensures { result.now ≡ trim_end s.now }
 {
-    let mut n = s.len();
-    while 0 < n {
-        let last = n - 1;
-        if s[last] != b' ' {
-            return numbers::io::head(s, n);
-        }
-        n -= 1;
+    let mut rest = s;
+    while let [before @ .., b' '] = rest {
+        rest = before;
     }
-    numbers::io::head(s, n)
-}
-
-// Whether a text is this one, the whole of it: so FocusMode is compared, and a model's name.
-pub fn is_text(text: &[u8], wanted: &[u8]) -> bool
-    ensures { result ≡ same text.now wanted.now }
-{
-    numbers::io::equals(text, wanted)
+    rest
 }
 
 // Whether a FocusMode text reads MANUAL.
@@ -78,33 +71,34 @@ fn is_manual(value: &[u8]) -> bool
     if 255 < text.len() {
         return false;
     }
-    is_text(trim_end(trim_start(text)), b"MANUAL")
+    numbers::io::equals(trim_end(trim_start(text)), b"MANUAL")
 }
 
 // Whether FocusMode records manual focus.
+#[tactic(auto, unfolding(crate::specs::Values::manual_focus_of))]
 pub fn manual_focus(block: &[u8], order: ByteOrder) -> bool
     ensures { result ≡ manual_focus_of order block.now }
 {
-    let found = crate::ifd::find_entry(block, order, FOCUS_MODE);
-    if crate::ifd::type_of(found) != crate::types::ASCII {
+    let Some(entry) = crate::ifd::find_entry(block, order, FOCUS_MODE) else {
         return false;
-    }
-    is_manual(crate::ifd::value_of(block, found))
+    };
+    entry.typ == crate::types::ASCII && is_manual(entry.value_in(block))
 }
 
 // Number `i` of a value whose numbers are 16 bits wide if `typ` is SHORT, else 32.
+#[tactic(auto, unfolding(crate::specs::Values::number_at))]
 fn number_at(value: &[u8], order: ByteOrder, typ: u16, i: usize) -> u32
     requires { i < 8 }
     ensures { result ≡ number_at order typ value.now i }
 {
     if typ == crate::types::SHORT {
-        return numbers::io::u16_of(numbers::io::tail(value, 2 * i), order) as u32;
+        return u32::from(numbers::io::u16_of(numbers::io::tail(value, 2 * i), order));
     }
     numbers::io::u32_of(numbers::io::tail(value, 4 * i), order)
 }
 
 // What CropHiSpeed records: the crop's mode, the picture's size before and after it, and where it starts.
-#[derive(Clone, Copy)]
+#[derive(Clone, Copy, PartialEq, Eq, Debug)]
 pub struct CropHiSpeed {
     pub mode: u32,
     pub original: Size,
@@ -112,156 +106,106 @@ pub struct CropHiSpeed {
     pub origin: Point,
 }
 
-// CropHiSpeed, if it records one.
-#[derive(Clone, Copy)]
-pub enum Crop {
-    NoCrop,
-    Stated(CropHiSpeed),
-}
-
-// What CropHiSpeed records of the crop.
-pub fn crop_hi_speed(block: &[u8], order: ByteOrder) -> Crop
+// What CropHiSpeed records of the crop, if it records one.
+#[tactic(auto, unfolding(crate::specs::Values::crop_hi_speed_of))]
+pub fn crop_hi_speed(block: &[u8], order: ByteOrder) -> Option<CropHiSpeed>
     ensures { result ≡ crop_hi_speed_of order block.now }
 {
-    let found = crate::ifd::find_entry(block, order, CROP_HI_SPEED);
-    if crate::ifd::type_of(found) != crate::types::SHORT {
-        return Crop::NoCrop;
+    let entry = crate::ifd::find_entry(block, order, CROP_HI_SPEED)?;
+    if entry.typ != crate::types::SHORT || entry.count() != 7 {
+        return None;
     }
-    if crate::ifd::count_of(found) != 7 {
-        return Crop::NoCrop;
-    }
-    let value = crate::ifd::value_of(block, found);
-    let mode = number_at(value, order, crate::types::SHORT, 0);
-    let original = Size {
-        width: number_at(value, order, crate::types::SHORT, 1),
-        height: number_at(value, order, crate::types::SHORT, 2),
-    };
-    let cropped = Size {
-        width: number_at(value, order, crate::types::SHORT, 3),
-        height: number_at(value, order, crate::types::SHORT, 4),
-    };
-    let origin = Point {
-        x: number_at(value, order, crate::types::SHORT, 5),
-        y: number_at(value, order, crate::types::SHORT, 6),
-    };
-    Crop::Stated(CropHiSpeed {
-        mode,
-        original,
-        cropped,
-        origin,
+    let value = entry.value_in(block);
+    let short = crate::types::SHORT;
+    Some(CropHiSpeed {
+        mode: number_at(value, order, short, 0),
+        original: Size {
+            width: number_at(value, order, short, 1),
+            height: number_at(value, order, short, 2),
+        },
+        cropped: Size {
+            width: number_at(value, order, short, 3),
+            height: number_at(value, order, short, 4),
+        },
+        origin: Point {
+            x: number_at(value, order, short, 5),
+            y: number_at(value, order, short, 6),
+        },
     })
 }
 
 // What CropArea gives: nothing, a value that cannot be used, or the size of the window that it describes.
-#[derive(Clone, Copy)]
+// kept: three cases that each load tells apart; an Option in a Result would have no plainer match.
+#[derive(Clone, Copy, PartialEq, Eq, Debug)]
 pub enum CropArea {
     Absent,
     Unusable,
     Window(Size),
 }
 
-// The window at `at` of `size`, where it has no zero side and lies inside `raw`.
-fn inside_raw(raw: Size, at: Point, size: Size) -> CropArea
-    ensures { result ≡ inside_raw raw at size }
+// The window that a rectangle is, where it lies in `raw`.
+#[tactic(auto, unfolding(crate::specs::Values::inside_raw, crate::specs::Geometry::lies_in))]
+fn inside_raw(raw: Size, window: Rectangle) -> CropArea
+    ensures { result ≡ inside_raw raw (corner_of window) (size_of window) }
 {
-    if size.width == 0 {
-        return CropArea::Unusable;
+    if window.lies_in(raw) {
+        CropArea::Window(window.size())
+    } else {
+        CropArea::Unusable
     }
-    if size.height == 0 {
-        return CropArea::Unusable;
-    }
-    if (raw.width as u64) < (at.x as u64) + (size.width as u64) {
-        return CropArea::Unusable;
-    }
-    if (raw.height as u64) < (at.y as u64) + (size.height as u64) {
-        return CropArea::Unusable;
-    }
-    CropArea::Window(size)
 }
 
 // Whether the entry's numbers are such as CropArea has: four of 16 or of 32 bits.
+#[tactic(auto, unfolding(crate::specs::Values::is_rectangle))]
 fn is_rectangle(typ: u16, count: u32) -> bool
     ensures { result ≡ is_rectangle typ count }
 {
-    if count != 4 {
-        return false;
-    }
-    if typ == crate::types::SHORT {
-        return true;
-    }
-    typ == crate::types::LONG
+    count == 4 && (typ == crate::types::SHORT || typ == crate::types::LONG)
 }
 
 // What CropArea gives in raw data of the size `raw`.
-pub fn crop_area(block: &[u8], order: ByteOrder, raw: OptionalSize) -> CropArea
+#[tactic(auto, unfolding(crate::specs::Values::crop_area_of, crate::specs::Values::window_in))]
+pub fn crop_area(block: &[u8], order: ByteOrder, raw: Option<Size>) -> CropArea
     ensures { result ≡ crop_area_of order block.now raw }
 {
-    let found = crate::ifd::find_entry(block, order, CROP_AREA);
-    if !crate::ifd::is_kept(found) {
+    let Some(entry) = crate::ifd::find_entry(block, order, CROP_AREA) else {
         return CropArea::Absent;
-    }
-    let typ = crate::ifd::type_of(found);
-    if !is_rectangle(typ, crate::ifd::count_of(found)) {
+    };
+    if !is_rectangle(entry.typ, entry.count()) {
         return CropArea::Unusable;
     }
-    let value = crate::ifd::value_of(block, found);
-    let at = Point {
-        x: number_at(value, order, typ, 0),
-        y: number_at(value, order, typ, 1),
+    let value = entry.value_in(block);
+    let window = Rectangle {
+        left: number_at(value, order, entry.typ, 0),
+        top: number_at(value, order, entry.typ, 1),
+        width: number_at(value, order, entry.typ, 2),
+        height: number_at(value, order, entry.typ, 3),
     };
-    let size = Size {
-        width: number_at(value, order, typ, 2),
-        height: number_at(value, order, typ, 3),
-    };
-    match raw {
-        OptionalSize::Given(whole) => inside_raw(whole, at, size),
-        OptionalSize::Missing => CropArea::Unusable,
-    }
+    raw.map_or(CropArea::Unusable, |frame| inside_raw(frame, window))
 }
 
 // The block's record.
-pub fn af_info2(block: &[u8], order: ByteOrder) -> AfInfo2
+#[tactic(auto, unfolding(crate::specs::Values::af_info2_of))]
+pub fn af_info2(block: &[u8], order: ByteOrder) -> Result<FocusRecord, RecordRefusal>
     ensures { record_means result ≡ af_info2_of order block.now }
 {
-    let found = crate::ifd::find_entry(block, order, AF_INFO2);
-    if crate::ifd::type_of(found) != crate::types::UNDEFINED {
-        return AfInfo2::NoRecord;
+    match crate::ifd::find_entry(block, order, AF_INFO2) {
+        Some(entry) if entry.typ == crate::types::UNDEFINED => {
+            crate::afinfo::af_info2_record(entry.value_in(block), order)
+        }
+        _ => Err(RecordRefusal::NoRecord),
     }
-    crate::afinfo::af_info2_record(crate::ifd::value_of(block, found), order)
-}
-
-// Whether contents could be read.
-#[derive(Clone, Copy)]
-pub enum ContentsAnswer {
-    Unreadable,
-    Tags,
-}
-
-// Which of the four tags a note has, where it could be read: those that have a kept entry.
-#[derive(Clone, Copy)]
-pub struct NoteTags {
-    pub answer: ContentsAnswer,
-    pub list: TagList,
 }
 
 // The four tags.
 const TAGS: [u16; 4] = [FOCUS_MODE, CROP_HI_SPEED, CROP_AREA, AF_INFO2];
 
-// Which of the four tags have a kept entry, in the order of their first kept entries in the directory.
-pub fn contents(block: &[u8]) -> NoteTags
+// Which of the four tags have a kept entry, in the order of their first kept entries in the directory; none where the block cannot be
+// read.
+#[tactic(auto, unfolding(crate::specs::Contents::contents_of, crate::specs::Contents::laid_tags, crate::specs::Contents::tags_of))]
+pub fn contents(block: &[u8]) -> Option<TagList>
     ensures { contents_means result ≡ laid_tags (contents_of block.now) }
 {
-    match crate::ifd::parse_block(block) {
-        Block::Readable(order) => NoteTags {
-            answer: ContentsAnswer::Tags,
-            list: crate::ifd::find_tags(block, order, TAGS),
-        },
-        Block::Unreadable => NoteTags {
-            answer: ContentsAnswer::Unreadable,
-            list: TagList {
-                count: 0,
-                tags: [0; 4],
-            },
-        },
-    }
+    let order = crate::ifd::parse_block(block)?;
+    Some(crate::ifd::find_tags(block, order, TAGS))
 }

@@ -2,6 +2,7 @@
 ghost use Rattle.std.specs.Prelude.{◌≡◌};
 ghost use Rattle.reading.specs.Block.{size_of};
 
+// kept: numbers and no enum: an entry of any other type is found too, and its type is compared with these.
 // Text, ending in a zero byte.
 pub const ASCII: u16 = 2;
 // 16-bit numbers.
@@ -15,9 +16,9 @@ pub const UNDEFINED: u16 = 7;
 const SIZES: [u8; 14] = [0, 1, 1, 2, 4, 8, 1, 1, 2, 4, 8, 4, 8, 4];
 
 // The size in bytes of one value of type `typ`; 0 for a type that is passed over.
+#[tactic(auto, unfolding(crate::specs::Block::size_of))]
 pub fn type_size(typ: u16) -> u8
     ensures { result ≡ size_of typ }
 {
-    let t = typ as usize;
-    if t < 14 { SIZES[t] } else { 0 }
+    SIZES.get(usize::from(typ)).copied().unwrap_or(0)
 }

@@ -2,48 +2,36 @@
 // function is total: it asks nothing of its caller.
 #![tactic(auto)]
 
-ghost use Rattle.std.specs.Prelude.{◌≡◌, max};
-ghost use Rattle.shape.specs.Shape.{difference, longest_side, same_shape};
+ghost use Rattle.std.specs.Prelude.{◌≡◌};
+ghost use Rattle.shape.specs.Shape.{longest_side, same_shape};
 ghost use Rattle.shape.specs.WorkedBox.{worked_side, worked_box};
 
 use reading::geometry::Size;
-
-// The greater of two numbers.
-fn greater(a: u32, b: u32) -> u32
-    ensures { result ≡ max a b }
-{
-    if a < b { b } else { a }
-}
 
 // The longest of the four sides of two sizes.
 fn longest(frame: Size, picture: Size) -> u32
     ensures { result ≡ longest_side frame picture }
 {
-    greater(
-        greater(frame.width, frame.height),
-        greater(picture.width, picture.height),
-    )
-}
-
-// How far two numbers are apart.
-fn abs_diff(a: u64, b: u64) -> u64
-    ensures { result ≡ difference a b }
-{
-    if a < b { b - a } else { a - b }
+    frame
+        .width
+        .max(frame.height)
+        .max(picture.width.max(picture.height))
 }
 
 // Whether a picture, or a box on a page, has the shape of a frame, to within a pixel of rounding. Products of two 32-bit sides fit 64
 // bits, so they are exact.
+#[tactic(auto, unfolding(crate::specs::Shape::same_shape))]
 pub fn same_shape(frame: Size, picture: Size) -> bool
     ensures { result ≡ same_shape frame picture }
 {
-    let across = frame.width as u64 * picture.height as u64;
-    let down = frame.height as u64 * picture.width as u64;
-    abs_diff(across, down) <= longest(frame, picture) as u64
+    let across = u64::from(frame.width) * u64::from(picture.height);
+    let down = u64::from(frame.height) * u64::from(picture.width);
+    across.abs_diff(down) <= u64::from(longest(frame, picture))
 }
 
 // A side of a box beside its other one: as it is, or, where it is blank (0), worked out from the frame's two sides: `that` one, which is
 // missing in the box, and the `given` one.
+#[tactic(auto, unfolding(crate::specs::WorkedBox::worked_side))]
 fn worked_side(own: u32, other: u32, that: u32, given: u32) -> u32
     ensures { result ≡ worked_side own other that given }
 {
@@ -56,6 +44,7 @@ fn worked_side(own: u32, other: u32, that: u32, given: u32) -> u32
 
 // The box that a fit works with: a box with its blank side worked out from the frame. One of two sides is as given, one of none stays
 // so.
+#[tactic(auto, unfolding(crate::specs::WorkedBox::worked_box))]
 pub fn worked_box(frame: Size, size: Size) -> Size
     ensures { result ≡ worked_box frame size }
 {

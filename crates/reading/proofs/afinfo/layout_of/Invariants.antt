@@ -1,12 +1,7 @@
--- `layout_of`: the loop's invariant is that the versions that are left decide. Assumes nothing.
-use mathlib.Core.Path.{◌≡◌}
-use Prim.Native.Nat.{◌-◌, ◌≤◌}
-use lib.ListN.{drop}
-use Rattle.reading.specs.Record.{versions, layout_among, layout_of}
+-- `afinfo::layout_of`: the layout is one of the versions that are left.
+use Rattle.std.proofs.Common.{◌≡◌, drop}
+use Rattle.reading.specs.Record.{versions, layout_of, layout_among}
 use Rattle.reading.proofs.afinfo.layout_of.Given as goal
 
-abbrev pub invariant-loop-i : goal.invariant-loop-i
-invariant-loop-i l = (l.i ≤ 7) × (layout_of l.value ≡ layout_among (drop l.i versions) l.value)
-
-abbrev pub decreases-loop-i : goal.decreases-loop-i
-decreases-loop-i l = 7 - l.i
+abbrev pub invariant-loop-version : goal.invariant-loop-version
+invariant-loop-version l = layout_of l.value ≡ layout_among (drop l.version-index versions) l.value

@@ -58,6 +58,14 @@ module _ (o : ByteOrder) (s all wanted places : List ℕ) (met at left : ℕ) (h
         room = k.room;
       }
 
+-- at the next index
+pub next_entry : {o : ByteOrder} {s all wanted places : List ℕ} {met : ℕ} (first count i : ℕ)
+    → Going o s all wanted places met (first + 12 * i + 12) (count - i - 1) → Going o s all wanted places met (first + 12 * (i + 1)) (count - (i + 1))
+next_entry first count i k =
+    let at : first + 12 * i + 12 ≡ first + 12 * (i + 1) = omega arith in
+    let left : count - i - 1 ≡ count - (i + 1) = omega arith in
+    rw (at, left) at k
+
 pub within : {o : ByteOrder} {s all wanted places : List ℕ} {met at left : ℕ} → Going o s all wanted places met at left → met ≤ length places
 within k = omega (arith, k.collected.same_size, k.collected.count_fits)
 
@@ -75,9 +83,6 @@ end o s all wanted places met at left h k =
     let f = finished 4 0 all places met (rw (none_left o s (missing (take met places) wanted) at left h) at k.collected) in
     rw (f.1, ← f.0)
 
-abbrev pub invariant-loop-left : goal.invariant-loop-left
-invariant-loop-left l =
-    ((l.at + 12 * l.left ≤ length l.block) × (l.met ≤ length l.tags)) × Going l.order l.block (first_each l.wanted (kept_from l.order l.block l.first l.count)) l.wanted l.tags l.met l.at l.left
-
-abbrev pub decreases-loop-left : goal.decreases-loop-left
-decreases-loop-left l = l.left
+abbrev pub invariant-loop-i : goal.invariant-loop-i
+invariant-loop-i l =
+    (l.met ≤ length l.tags) × Going l.order l.block (first_each l.wanted (kept_from l.order l.block l.directory.first l.directory.count)) l.wanted l.tags l.met (l.directory.first + 12 * l.i) (l.directory.count - l.i)

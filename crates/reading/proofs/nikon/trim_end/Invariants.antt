@@ -1,12 +1,10 @@
--- `nikon::trim_end`: the loop's invariant is that trimming the front trims the whole. Assumes nothing.
-use Prim.Native.Nat.{◌≤◌}
-use mathlib.Core.Path.{◌≡◌}
-use lib.ListN.{length, take}
+-- `nikon::trim_end`: trimming the rest trims the whole.
+use Rattle.std.proofs.Common.{◌≡◌, length}
 use Rattle.reading.specs.Values.{trim_end}
 use Rattle.reading.proofs.nikon.trim_end.Given as goal
 
-abbrev pub invariant-loop-n : goal.invariant-loop-n
-invariant-loop-n l = (l.n ≤ length l.s) × (trim_end l.s ≡ trim_end (take l.n l.s))
+abbrev pub invariant-loop-rest : goal.invariant-loop-rest
+invariant-loop-rest l = trim_end l.s ≡ trim_end l.rest
 
-abbrev pub decreases-loop-n : goal.decreases-loop-n
-decreases-loop-n l = l.n
+abbrev pub decreases-loop-rest : goal.decreases-loop-rest
+decreases-loop-rest l = length l.rest
