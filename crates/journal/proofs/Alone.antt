@@ -1,10 +1,10 @@
 -- A workspace beside a sheet. Its sheet answers the sheet's calls as it does alone. And whatever its calls, what its journal holds is
 -- reached by a sheet's calls alone, as is what it would hold with any of the kept edits standing (`Reached`): by induction over the calls.
 -- So its answers are those of a sheet after some calls. Assumes nothing.
+use Rattle.std.specs.Prelude.{Option, Some, None}
 use Prim.Native.Nat.{ℕ}
 use mathlib.Core.Bool.{Bool, true, false, cond}
 use mathlib.Core.List.{List, [], ◌∷◌, ◌++◌, map}
-use mathlib.Core.Option.{Option, none, some}
 use mathlib.Core.Path.{◌≡◌, refl, sym, ap, ap₂, ◌∙◌}
 use Rattle.numbers.specs.Bytes.{same}
 use Rattle.reading.specs.Outcome.{Outcome, refused, accepted, is_accepted}
@@ -91,8 +91,8 @@ AllReached w = Reached w.journal × NamesReached w.journal w.names
 -- ---- a call of the sheet leaves the names what they are, or clears them
 ended_names : (o : Option ℕ) (f : Focus) (row more : List Change) (ks : List NamedEdits) → RowsReached f ks
     → NamesReached (ended o (holds f row) (holds f more)).1 ks
-ended_names none f row more ks r = r
-ended_names (some n) f row more ks r = r
+ended_names None f row more ks r = r
+ended_names (Some n) f row more ks r = r
 
 load_names : (j : Journal) (o : Outcome Focus) (ks : List NamedEdits) → NamesReached j ks
     → NamesReached (journal_load j o).1 (cond (is_accepted (journal_load j o).0.outcome) [] ks)
@@ -129,19 +129,19 @@ keep_reached empty ks name r = r
 keep_reached (holds f row) ks name r = by (keep_refusal name ks)
   where
     by : (o : Option ℕ) → AllReached (ended o (with (holds f row) ks) (with (holds f row) (keep_under name row ks))).1
-    by none = (r.0, keep_rows f name row ks r.0 r.1)
-    by (some n) = r
+    by None = (r.0, keep_rows f name row ks r.0 r.1)
+    by (Some n) = r
 
 abbrev IfReached : Focus → Option (List Change) → Type 0
-IfReached f none = Unit
-IfReached f (some edits) = Reached (holds f edits)
+IfReached f None = Unit
+IfReached f (Some edits) = Reached (holds f edits)
 
 row_reached : (f : Focus) (name : List ℕ) (ks : List NamedEdits) → RowsReached f ks → IfReached f (kept_under name ks)
 unfolding kept_under
 row_reached f name [] r = tt
 row_reached f name (k ∷ ks) r = by (row_reached f name ks r.1) (same k.name name)
   where
-    by : IfReached f (kept_under name ks) → (b : Bool) → IfReached f (cond b (some k.edits) (kept_under name ks))
+    by : IfReached f (kept_under name ks) → (b : Bool) → IfReached f (cond b (Some k.edits) (kept_under name ks))
     by s true = r.0
     by s false = s
 
@@ -153,8 +153,8 @@ return_reached (holds f row) ks name r = by (is_bad_name name) (kept_under name 
     by : (a : Bool) (o : Option (List Change)) → IfReached f o
         → AllReached (cond a (no 16 [], with (holds f row) ks) (returned o f row ks)).1
     by true o q = r
-    by false none q = r
-    by false (some edits) q = (q, r.1)
+    by false None q = r
+    by false (Some edits) q = (q, r.1)
 
 -- ---- any call, any list of calls
 one_call : (w : WorkspaceJournal) (c : WorkspaceCall) → AllReached w → AllReached (journal_step_in w c).1

@@ -1,8 +1,8 @@
 -- Laws of the journal: what a row of edits does with one edit more, and with further edits, to the frame, to a point and to the
 -- listing. By induction over the row, or over the points. Assumes nothing.
+use Rattle.std.specs.Prelude.{Option, Some, None}
 use Prim.Native.Nat.{◌-◌}
 use mathlib.Core.List.{List, [], ◌∷◌, ◌++◌, append_assoc, append-nil}
-use mathlib.Core.Option.{Option, none, some}
 use mathlib.Core.Path.{◌≡◌, refl, sym, ap, ◌∙◌}
 use lib.ListN.{length, take, length-append}
 use lib.Seq.{take_at}
@@ -34,7 +34,7 @@ unfolding carried
 carried_snoc f o row c = carried_append f o row (c ∷ [])
 
 -- a point that is unlisted stays so
-pub carried_none : (f : Size) (row : List Change) → carried f none row ≡ none
+pub carried_none : (f : Size) (row : List Change) → carried f None row ≡ None
 unfolding carried
 carried_none f [] = refl
 carried_none f (c ∷ row) = carried_none (frame_by c f) row
@@ -44,15 +44,15 @@ pub listed_append : (f : Size) (row : List Change) (ps qs : List FocusPoint) →
 unfolding listed
 listed_append f row [] qs = refl
 listed_append f row (p ∷ ps) qs =
-    ap (λ (l : List FocusPoint). if_listed (carried f (some p) row) ++ l) (listed_append f row ps qs)
-    ∙ sym (append_assoc (if_listed (carried f (some p) row)) (listed f row ps) (listed f row qs))
+    ap (λ (l : List FocusPoint). if_listed (carried f (Some p) row) ++ l) (listed_append f row ps qs)
+    ∙ sym (append_assoc (if_listed (carried f (Some p) row)) (listed f row ps) (listed f row qs))
 
 pub listed_snoc : (f : Size) (row : List Change) (ps : List FocusPoint) (p : FocusPoint)
-    → listed f row (ps ++ p ∷ []) ≡ listed f row ps ++ if_listed (carried f (some p) row)
+    → listed f row (ps ++ p ∷ []) ≡ listed f row ps ++ if_listed (carried f (Some p) row)
 unfolding listed
 listed_snoc f row ps p =
     listed_append f row ps (p ∷ [])
-    ∙ ap (λ (l : List FocusPoint). listed f row ps ++ l) (append-nil (if_listed (carried f (some p) row)))
+    ∙ ap (λ (l : List FocusPoint). listed f row ps ++ l) (append-nil (if_listed (carried f (Some p) row)))
 
 -- the last edit taken off again
 pub but_last : (row : List Change) (c : Change) → take (length (row ++ c ∷ []) - 1) (row ++ c ∷ []) ≡ row

@@ -1,9 +1,9 @@
 -- The places of a workspace beside the names of its journal: one walk along the places in use gives the place of a name, what is kept
 -- under it, and what a keep makes of the list. Assumes nothing.
+use Rattle.std.specs.Prelude.{Some, None}
 use Prim.Native.Nat.{ℕ, zero, suc, ◌<◌, ◌≤◌}
 use mathlib.Core.Bool.{Bool, true, false, cond}
 use mathlib.Core.List.{List, [], ◌∷◌, ◌++◌, map}
-use mathlib.Core.Option.{none, some}
 use mathlib.Core.Path.{◌≡◌, refl, sym, ap}
 use lib.ListN.{get_or, length, take, set, replicate}
 use lib.Seq.{take-append_seam}
@@ -12,19 +12,20 @@ use borrow.Author.Tests.{le-leb}
 use Rattle.numbers.specs.Bytes.{same}
 use Rattle.workspace.specs.declared.Checkpoint.{Checkpoint}
 use Rattle.workspace.specs.Names.{in_places, holds_name}
+use Rattle.sheet.specs.Sheet.{no_edits}
 use Rattle.workspace.specs.Workspace.{no_checkpoint, blank_checkpoint, place_among}
 use Rattle.journal.specs.WorkspaceJournal.{NamedEdits, kept_under, keep_under}
 use Rattle.journal.proofs.Placed.{row_at}
 
 -- what a checkpoint keeps
 abbrev pub kept_of : Checkpoint → NamedEdits
-kept_of p = record { name = take p.len p.name; edits = row_at p.edits p.standing }
+kept_of p = record { name = take p.len p.name; edits = row_at p.row.edits p.row.count }
 
 -- what holds of every place after calls
 pub record Fine (p : Checkpoint) : Type 0 where
   pub short : p.len ≤ 16
-  pub stands : p.standing ≤ 64
-  pub worded : length p.edits ≡ 320
+  pub stands : p.row.count ≤ 64
+  pub roomy : length p.row.edits ≡ 64
 
 pub data AllFine : List Checkpoint → Type 0 where
   nil : AllFine []
@@ -46,8 +47,8 @@ fine_at (p ∷ ps) zero (cons g a) h = g
 fine_at (p ∷ ps) (suc i) (cons g a) h = fine_at ps i a (omega arith)
 
 blank_fine : Fine blank_checkpoint
-unfolding blank_checkpoint
-blank_fine = record { short = omega arith; stands = omega arith; worded = refl }
+unfolding blank_checkpoint no_edits
+blank_fine = record { short = omega arith; stands = omega arith; roomy = refl }
 
 fine_blanks : (n : ℕ) → AllFine (replicate n blank_checkpoint)
 fine_blanks zero = nil
@@ -68,11 +69,11 @@ named_same name p f = rw (le-leb p.len 16 f.short)
 -- ---- what the walk finds
 pub data Found (name : List ℕ) (ps : List Checkpoint) (at : ℕ) : Type 0 where
   there : at < length ps
-      → kept_under name (map kept_of ps) ≡ some (kept_of (get_or ps at no_checkpoint)).edits
+      → kept_under name (map kept_of ps) ≡ Some (kept_of (get_or ps at no_checkpoint)).edits
       → ((x : Checkpoint) → (kept_of x).name ≡ name → map kept_of (set ps at x) ≡ keep_under name (kept_of x).edits (map kept_of ps))
       → Found name ps at
   absent : at ≡ length ps
-      → kept_under name (map kept_of ps) ≡ none
+      → kept_under name (map kept_of ps) ≡ None
       → ((x : Checkpoint) → (kept_of x).name ≡ name → map kept_of (ps ++ x ∷ []) ≡ keep_under name (kept_of x).edits (map kept_of ps))
       → Found name ps at
 

@@ -1,10 +1,10 @@
 -- What every journal that calls leave holds: a sound load, at most 64 edits, and the primary listed. By induction over the calls: a
 -- cut that would drop the primary is refused, and a point that is listed was listed before. Then: a point that fits the load's
 -- frame fits the present one wherever it is carried. Assumes nothing.
+use Rattle.std.specs.Prelude.{Option, Some, None}
 use Prim.Native.Nat.{ℕ, zero, suc, ◌-◌, ◌<◌, ◌≤◌}
 use mathlib.Core.Bool.{Bool, true, false, cond}
 use mathlib.Core.List.{List, [], ◌∷◌, ◌++◌}
-use mathlib.Core.Option.{Option, none, some}
 use mathlib.Core.Path.{◌≡◌, refl, ap, ◌∙◌}
 use lib.Dec.{leb}
 use lib.ListN.{get_or, length, take, drop, take-append-drop, length-append}
@@ -41,31 +41,31 @@ listed_before : (f : Size) (o : Option FocusPoint) (row more : List Change)
 listed_before f o row more e = by (carried f o row) (rw (carried_append f o row more) at e)
   where
     by : (q : Option FocusPoint) → still_listed (carried (frame_after f row) q more) ≡ true → still_listed q ≡ true
-    by none y = rw (carried_none (frame_after f row) more) at y
-    by (some p) y = refl
+    by None y = rw (carried_none (frame_after f row) more) at y
+    by (Some p) y = refl
 
 -- an orientation leaves a listed point listed
 orient_stays : (n : ℕ) (f : Size) (o : Option FocusPoint) → still_listed (moved_by (orient n) f o) ≡ still_listed o
-orient_stays n f none = refl
-orient_stays n f (some p) = refl
+orient_stays n f None = refl
+orient_stays n f (Some p) = refl
 
 primary_stays : (f : Focus) (row : List Change) (n : ℕ) → still_listed (primary_after f row) ≡ true
     → still_listed (primary_after f (row ++ orient n ∷ [])) ≡ true
 primary_stays f row n h =
-    rw (carried_snoc f.frame (some (primary_of f)) row (orient n))
+    rw (carried_snoc f.frame (Some (primary_of f)) row (orient n))
     (orient_stays n (frame_after f.frame row) (primary_after f row) ∙ h)
 
 -- what an edit that is not refused tells
-cut_told : (a b : Bool) → cond {A = Option ℕ} a (some 9) (cond b none (some 10)) ≡ none → b ≡ true
+cut_told : (a b : Bool) → cond {A = Option ℕ} a (Some 9) (cond b None (Some 10)) ≡ None → b ≡ true
 cut_told true b e = let z : ◌≡◌ {A = ℕ} 0 1 = cc in absurd (omega arith)
 cut_told false true e = refl
 cut_told false false e = let z : ◌≡◌ {A = ℕ} 0 1 = cc in absurd (omega arith)
 
-full_told : (a : Bool) (o : Option ℕ) → cond a (some 8) o ≡ none → (a ≡ false) × (o ≡ none)
+full_told : (a : Bool) (o : Option ℕ) → cond a (Some 8) o ≡ None → (a ≡ false) × (o ≡ None)
 full_told true o e = let z : ◌≡◌ {A = ℕ} 0 1 = cc in absurd (omega arith)
 full_told false o e = (refl, e)
 
-change_right : (f : Focus) (row : List Change) (c : Change) → Right f row → change_refusal f row c ≡ none → Right f (row ++ c ∷ [])
+change_right : (f : Focus) (row : List Change) (c : Change) → Right f row → change_refusal f row c ≡ None → Right f (row ++ c ∷ [])
 unfolding change_refusal
 change_right f row c r e =
     let k = full_told (leb 64 (length row)) _ e in
@@ -75,7 +75,7 @@ change_right f row c r e =
       room = rw length-append (omega (arith, leb-false 64 (length row) k.0));
     }
   where
-    by : (c : Change) → own_refusal f row c ≡ none → still_listed (primary_after f (row ++ c ∷ [])) ≡ true
+    by : (c : Change) → own_refusal f row c ≡ None → still_listed (primary_after f (row ++ c ∷ [])) ≡ true
     by (cut l t w h) y =
         cut_told (is_bad_cut l t w h (present_frame f row)) (still_listed (primary_after f (row ++ cut l t w h ∷ []))) y
     by (orient n) y = primary_stays f row n r.primary
@@ -84,14 +84,14 @@ back_right : (f : Focus) (row : List Change) → Right f row → Right f (take (
 back_right f row r = record {
   sound = r.sound;
   primary =
-      listed_before f.frame (some (primary_of f)) (take (length row - 1) row) (drop (length row - 1) row)
+      listed_before f.frame (Some (primary_of f)) (take (length row - 1) row) (drop (length row - 1) row)
       (rw (take-append-drop (length row - 1) row) r.primary);
   room = omega (arith, r.room, simp length-append at (ap length (take-append-drop (length row - 1) row)));
 }
 
-ended_right : (o : Option ℕ) (j k : Journal) → AllRight j → (o ≡ none → AllRight k) → AllRight (ended o j k).1
-ended_right none j k r s = s refl
-ended_right (some n) j k r s = r
+ended_right : (o : Option ℕ) (j k : Journal) → AllRight j → (o ≡ None → AllRight k) → AllRight (ended o j k).1
+ended_right None j k r s = s refl
+ended_right (Some n) j k r s = r
 
 load_right : (j : Journal) (o : Outcome Focus) → AllRight j → Sound o → AllRight (journal_load j o).1
 unfolding journal_load carried
@@ -121,8 +121,8 @@ right calls f standing e = rw e at (right_from calls empty tt)
 
 -- ---- every listed point fits
 abbrev pub FitsIf : Size → Option FocusPoint → Type 0
-FitsIf f none = Unit
-FitsIf f (some p) = point_fits f p ≡ true
+FitsIf f None = Unit
+FitsIf f (Some p) = point_fits f p ≡ true
 
 -- a turn exchanges the axes and then mirrors
 step_fits : (s : Step) (f : Size) (p : FocusPoint) → point_fits f p ≡ true → point_fits (frame_at s f) (point_at s f p) ≡ true
@@ -137,13 +137,13 @@ through_fits (s ∷ ss) f p h = through_fits ss (frame_at s f) (point_at s f p) 
 
 moved_fits : (c : Change) (f : Size) (o : Option FocusPoint) → FitsIf f o → FitsIf (frame_by c f) (moved_by c f o)
 unfolding point_fits
-moved_fits c f none h = tt
-moved_fits (cut l t w k) f (some p) h = by (stays_listed (cut l t w k) f p) refl
+moved_fits c f None h = tt
+moved_fits (cut l t w k) f (Some p) h = by (stays_listed (cut l t w k) f p) refl
   where
-    by : (b : Bool) → stays_listed (cut l t w k) f p ≡ b → FitsIf (frame_by (cut l t w k) f) (cond b (some (point_by (cut l t w k) f p)) none)
+    by : (b : Bool) → stays_listed (cut l t w k) f p ≡ b → FitsIf (frame_by (cut l t w k) f) (cond b (Some (point_by (cut l t w k) f p)) None)
     by true e = (both (leb t p.center.y) _ (both (leb l p.center.x) _ e).1).1
     by false e = tt
-moved_fits (orient n) f (some p) h = through_fits (numbered_steps n) f p h
+moved_fits (orient n) f (Some p) h = through_fits (numbered_steps n) f p h
 
 pub carried_fits : (f : Size) (o : Option FocusPoint) (row : List Change) → FitsIf f o → FitsIf (frame_after f row) (carried f o row)
 unfolding frame_after carried
@@ -153,12 +153,12 @@ carried_fits f o (c ∷ row) h = carried_fits (frame_by c f) (moved_by c f o) ro
 pub listed_fits : (f : Size) (row : List Change) (ps : List FocusPoint) → AllFit f ps → AllFit (frame_after f row) (listed f row ps)
 unfolding listed
 listed_fits f row [] h = tt
-listed_fits f row (p ∷ ps) h = by (carried f (some p) row) (carried_fits f (some p) row h.0) (listed_fits f row ps h.1)
+listed_fits f row (p ∷ ps) h = by (carried f (Some p) row) (carried_fits f (Some p) row h.0) (listed_fits f row ps h.1)
   where
     by : (o : Option FocusPoint) → FitsIf (frame_after f row) o → AllFit (frame_after f row) (listed f row ps)
         → AllFit (frame_after f row) (if_listed o ++ listed f row ps)
-    by none y rest = rest
-    by (some q) y rest = (y, rest)
+    by None y rest = rest
+    by (Some q) y rest = (y, rest)
 
 pub fits_at : (f : Size) (ps : List FocusPoint) (i : ℕ) → AllFit f ps → i < length ps → point_fits f (get_or ps i no_point) ≡ true
 fits_at f [] i h l = absurd (omega arith)

@@ -1,6 +1,6 @@
 -- On every sheet, also one made by hand, a refused call leaves sheet and buffer as they were: each definition of the sheet by the
 -- cases of its tests. Assumes nothing.
-use Prim.Native.Nat.{ℕ, ◌-◌}
+use Prim.Native.Nat.{ℕ}
 use mathlib.Core.Bool.{Bool, true, false, cond, false≢true}
 use mathlib.Core.List.{List, []}
 use mathlib.Core.Logic.{◌⊎◌, inl, inr}
@@ -17,10 +17,10 @@ use Rattle.shape.specs.WorkedBox.{worked_box}
 use Rattle.sheet.specs.declared.edits.Edit.TheVariants.{Cut}
 use Rattle.sheet.specs.declared.orientation.Orientation.{Orientation}
 use Rattle.sheet.specs.declared.Sheet.{Sheet}
-use Rattle.sheet.specs.Sheet.{leaves, kept_by, load_sheet, usable, present_frame, with_edits, add_edit, if_open, orient_to, orient_sheet, keeps_primary, cut_sheet, back_sheet}
+use Rattle.sheet.specs.Sheet.{leaves, kept_by, load_sheet, usable, present_frame, with_row, without_last, add_edit, if_open, orient_to, orient_sheet, keeps_primary, cut_sheet, back_sheet}
 use Rattle.sheet.specs.Orientation.{orientation_of}
-use Rattle.sheet.specs.Place.{is_good_cut}
-use Rattle.sheet.specs.Listing.{head_numbers, over, flat}
+use Rattle.sheet.specs.Place.{rectangle, is_good_cut}
+use Rattle.sheet.specs.Listing.{over, flat}
 use Rattle.sheet.specs.Lists.{listing as sheetListing, is_short, head_in, scaled_all, list_outcome, list_buffer, outcome_in_box, buffer_in_box, fit_outcome, fit_buffer}
 use Rattle.journal.specs.Journal.{Change, cut, orient, Answer}
 use Rattle.journal.specs.Calls.{Call, load, change, back, list, fit, lent}
@@ -40,7 +40,7 @@ keeps_edited r s (inr e) = inr (e, refl)
 
 opens : (s : Sheet) (r : Outcome (List ℕ) × Sheet) → KeepsEdited r s → KeepsEdited (if_open s r) s
 unfolding if_open
-opens s r k = by (usable s) (ltb s.standing 64)
+opens s r k = by (usable s) (ltb s.row.count 64)
   where
     by : (a b : Bool) → KeepsEdited (cond a (cond b r (kept_by 8 s)) (kept_by 7 s)) s
     by true true = k
@@ -49,9 +49,9 @@ opens s r k = by (usable s) (ltb s.standing 64)
 
 cuts : (s : Sheet) (l t w h : ℕ) → KeepsEdited (cut_sheet s l t w h) s
 unfolding cut_sheet
-cuts s l t w h = opens s _ (by (is_good_cut l t w h (present_frame s)) (keeps_primary s (Cut l t w h)))
+cuts s l t w h = opens s _ (by (is_good_cut l t w h (present_frame s)) (keeps_primary s (Cut (rectangle l t w h))))
   where
-    by : (a b : Bool) → KeepsEdited (cond a (cond b (leaves (add_edit s (Cut l t w h))) (kept_by 10 s)) (kept_by 9 s)) s
+    by : (a b : Bool) → KeepsEdited (cond a (cond b (leaves (add_edit s (Cut (rectangle l t w h)))) (kept_by 10 s)) (kept_by 9 s)) s
     by true true = inl refl
     by true false = inr refl
     by false b = inr refl
@@ -70,9 +70,9 @@ changes s (orient n) = orients s n
 
 backs : (s : Sheet) → KeepsEdited (back_sheet s) s
 unfolding back_sheet
-backs s = by (usable s) (eqb s.standing 0)
+backs s = by (usable s) (eqb s.row.count 0)
   where
-    by : (a b : Bool) → KeepsEdited (cond a (cond b (kept_by 11 s) (leaves (with_edits s s.edits (s.standing - 1)))) (kept_by 7 s)) s
+    by : (a b : Bool) → KeepsEdited (cond a (cond b (kept_by 11 s) (leaves (with_row s (without_last s.row)))) (kept_by 7 s)) s
     by true true = inr refl
     by true false = inl refl
     by false b = inr refl
@@ -86,7 +86,7 @@ lists : (s : Sheet) (b : List ℕ) → Keeps (after_list (list_outcome s (length
 unfolding list_outcome list_buffer
 lists s b = by (usable s) (is_short s (length b))
   where
-    by : (u v : Bool) → Keeps (after_list (cond u (cond v (refused 13) (accepted (head_numbers (head_in (present_frame s) s)))) (refused 7)) (cond u (cond v b (over (flat (sheetListing s)) b)) b) s) s b
+    by : (u v : Bool) → Keeps (after_list (cond u (cond v (refused 13) (accepted (head_in (present_frame s) s))) (refused 7)) (cond u (cond v b (over (flat (sheetListing s)) b)) b) s) s b
     by true true = inr (refl, refl)
     by true false = inl refl
     by false v = inr (refl, refl)
@@ -96,7 +96,7 @@ unfolding outcome_in_box buffer_in_box
 boxes s box b = by (usable s) (has_zero_side box) (same_shape (present_frame s) box) (is_short s (length b))
   where
     by : (u z t v : Bool)
-        → Keeps (after_list (cond u (cond z (refused 12) (cond t (cond v (refused 13) (accepted (head_numbers (head_in box s)))) (refused 19))) (refused 7))
+        → Keeps (after_list (cond u (cond z (refused 12) (cond t (cond v (refused 13) (accepted (head_in box s))) (refused 19))) (refused 7))
         (cond u (cond z b (cond t (cond v b (over (flat (scaled_all (present_frame s) box (sheetListing s))) b)) b)) b) s) s b
     by true true t v = inr (refl, refl)
     by true false false v = inr (refl, refl)

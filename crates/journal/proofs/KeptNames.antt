@@ -1,9 +1,9 @@
 -- Names: `same` is equality; what is kept under a name after a keep; and no name is kept twice, as a keep replaces the one that is there:
 -- by induction over the calls. Assumes nothing.
+use Rattle.std.specs.Prelude.{Option, Some, None}
 use Prim.Native.Nat.{ℕ}
 use mathlib.Core.Bool.{Bool, true, false, ◌&&◌, cond, false≢true}
 use mathlib.Core.List.{List, [], ◌∷◌}
-use mathlib.Core.Option.{Option, none, some}
 use mathlib.Core.Path.{◌≡◌, refl, sym, ap, ap₂, ◌∙◌}
 use lib.Dec.{eqb}
 use borrow.Author.Tests.{eqb-true, eq-eqb}
@@ -46,15 +46,15 @@ same_both k m n d e = by (same k n) refl
 
 -- what is kept under a name after a keep under another, or the same
 pub kept_after : (n m : List ℕ) (edits : List Change) (ks : List NamedEdits)
-    → kept_under n (keep_under m edits ks) ≡ cond (same m n) (some edits) (kept_under n ks)
+    → kept_under n (keep_under m edits ks) ≡ cond (same m n) (Some edits) (kept_under n ks)
 unfolding kept_under keep_under
 kept_after n m edits [] = refl
 kept_after n m edits (k ∷ ks) = by (kept_after n m edits ks) (same k.name m) refl (same m n) refl
   where
-    by : kept_under n (keep_under m edits ks) ≡ cond (same m n) (some edits) (kept_under n ks)
+    by : kept_under n (keep_under m edits ks) ≡ cond (same m n) (Some edits) (kept_under n ks)
         → (a : Bool) → same k.name m ≡ a → (b : Bool) → same m n ≡ b
         → kept_under n (cond a (record { name = m; edits = edits } ∷ ks) (k ∷ keep_under m edits ks))
-        ≡ cond b (some edits) (cond (same k.name n) (some k.edits) (kept_under n ks))
+        ≡ cond b (Some edits) (cond (same k.name n) (Some k.edits) (kept_under n ks))
     by r true e true g = rw g
     by r true e false g = rw (g, same_true k.name m e, g)
     by r false e true g = rw (same_both k.name m n e g, r, g)
@@ -78,7 +78,7 @@ differ_keep name row (k ∷ ks) d = by (differ_keep name row ks d.1) (same k.nam
     by r true e = (ap (λ (m : List ℕ). kept_under m ks) (sym (same_true k.name name e)) ∙ d.0, d.1)
     by r false e = (
       kept_after k.name name row ks
-          ∙ ap (λ (b : Bool). cond b (some row) (kept_under k.name ks)) (same_flipped k.name name e)
+          ∙ ap (λ (b : Bool). cond b (Some row) (kept_under k.name ks)) (same_flipped k.name name e)
           ∙ d.0,
       r,
     )
@@ -93,8 +93,8 @@ keep_differ empty ks name d = d
 keep_differ (holds f row) ks name d = by (keep_refusal name ks)
   where
     by : (o : Option ℕ) → Differ (ended o (with (holds f row) ks) (with (holds f row) (keep_under name row ks))).1.names
-    by none = differ_keep name row ks d
-    by (some n) = d
+    by None = differ_keep name row ks d
+    by (Some n) = d
 
 return_differ : (j : Journal) (ks : List NamedEdits) (name : List ℕ) → Differ ks → Differ (journal_return j ks name).1.names
 unfolding journal_return
@@ -104,8 +104,8 @@ return_differ (holds f row) ks name d = by (is_bad_name name) (kept_under name k
     by : (a : Bool) (o : Option (List Change))
         → Differ (cond {A = Answer × WorkspaceJournal} a (no 16 [], with (holds f row) ks) (returned o f row ks)).1.names
     by true o = d
-    by false none = d
-    by false (some edits) = d
+    by false None = d
+    by false (Some edits) = d
 
 differ_step : (w : WorkspaceJournal) (c : WorkspaceCall) → Differ w.names → Differ (journal_step_in w c).1.names
 unfolding journal_step_in journal_sheet

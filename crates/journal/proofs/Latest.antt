@@ -1,11 +1,11 @@
 -- Keeps and returns. After every list of calls what the journal keeps under a name is what stood at the latest accepted keep under it since
 -- the last accepted load, of the same load (`KeptAt`): by induction over the list, call by call. A keep leaves the sheet's journal as it is.
 -- Assumes nothing.
+use Rattle.std.specs.Prelude.{Option, Some, None}
 use Prim.Native.Nat.{ℕ}
 use mathlib.Core.Bool.{Bool, true, false, ◌&&◌, cond}
 use mathlib.Core.List.{List, [], ◌∷◌, ◌++◌, append-nil}
 use mathlib.Core.Logic.{◌↔◌}
-use mathlib.Core.Option.{Option, none, some}
 use mathlib.Core.Path.{◌≡◌, refl, sym, ap, ◌∙◌}
 use native.Mathlib.Omega.{arith}
 use lib.Seq.{append_snoc}
@@ -24,24 +24,24 @@ use Rattle.journal.proofs.WorkspaceAgrees.{answers_in, after_snoc}
 -- ---- the latest keep, beside what is kept
 -- of a name: the calls before its latest keep, the edits kept under it, and what the journal holds
 abbrev KeptAt : List ℕ → Option (List WorkspaceCall) → Option (List Change) → Journal → Type 0
-KeptAt name none none j = Unit
-KeptAt name none (some edits) j = ⊥
-KeptAt name (some before) none j = ⊥
-KeptAt name (some before) (some edits) empty = ⊥
-KeptAt name (some before) (some edits) (holds f standing) = ((after_in before).journal ≡ holds f edits) × (is_bad_name name ≡ false)
+KeptAt name None None j = Unit
+KeptAt name None (Some edits) j = ⊥
+KeptAt name (Some before) None j = ⊥
+KeptAt name (Some before) (Some edits) empty = ⊥
+KeptAt name (Some before) (Some edits) (holds f standing) = ((after_in before).journal ≡ holds f edits) × (is_bad_name name ≡ false)
 
 -- it does not matter which edits stand now
 other_edits : (name : List ℕ) (l : Option (List WorkspaceCall)) (o : Option (List Change)) (f : Focus) (standing more : List Change)
     → KeptAt name l o (holds f standing) → KeptAt name l o (holds f more)
-other_edits name none none f standing more k = tt
-other_edits name (some before) (some edits) f standing more k = k
-other_edits name none (some edits) f standing more k = k
-other_edits name (some before) none f standing more k = k
+other_edits name None None f standing more k = tt
+other_edits name (Some before) (Some edits) f standing more k = k
+other_edits name None (Some edits) f standing more k = k
+other_edits name (Some before) None f standing more k = k
 
 -- ---- one call of the sheet
 module _ (name : List ℕ) (l : Option (List WorkspaceCall)) where
   load_keeps : (j : Journal) (ks : List NamedEdits) (o : Outcome Focus) → KeptAt name l (kept_under name ks) j
-      → KeptAt name (cond (is_accepted (journal_load j o).0.outcome) none l)
+      → KeptAt name (cond (is_accepted (journal_load j o).0.outcome) None l)
       (kept_under name (cond (is_accepted (journal_load j o).0.outcome) [] ks)) (journal_load j o).1
   unfolding journal_load kept_under
   load_keeps j ks (refused n) k = k
@@ -49,11 +49,11 @@ module _ (name : List ℕ) (l : Option (List WorkspaceCall)) where
 
   ended_keeps : (o : Option (List Change)) (n : Option ℕ) (f : Focus) (standing more : List Change) → KeptAt name l o (holds f standing)
       → KeptAt name l o (ended n (holds f standing) (holds f more)).1
-  ended_keeps o none f standing more k = other_edits name l o f standing more k
-  ended_keeps o (some n) f standing more k = k
+  ended_keeps o None f standing more k = other_edits name l o f standing more k
+  ended_keeps o (Some n) f standing more k = k
 
   sheet_keeps : (j : Journal) (ks : List NamedEdits) (c : Call) → KeptAt name l (kept_under name ks) j
-      → KeptAt name (cond (is_load c && is_accepted (journal_step j c).0.outcome) none l)
+      → KeptAt name (cond (is_load c && is_accepted (journal_step j c).0.outcome) None l)
       (kept_under name (names_after c (journal_step j c).0 ks)) (journal_step j c).1
   unfolding journal_step journal_change journal_back
   sheet_keeps j ks (load block raw picture model) k = load_keeps j ks (focus_of block raw picture model) k
@@ -67,20 +67,20 @@ module _ (name : List ℕ) (l : Option (List WorkspaceCall)) where
   -- ---- keep and return
   module _ (before : List WorkspaceCall) (m : List ℕ) where
     keep_keeps : (j : Journal) (ks : List NamedEdits) → (after_in before).journal ≡ j → KeptAt name l (kept_under name ks) j
-        → KeptAt name (cond (is_accepted (journal_keep j ks m).0.outcome && same m name) (some before) l)
+        → KeptAt name (cond (is_accepted (journal_keep j ks m).0.outcome && same m name) (Some before) l)
         (kept_under name (journal_keep j ks m).1.names) (journal_keep j ks m).1.journal
     unfolding journal_keep keep_refusal
     keep_keeps empty ks e k = k
     keep_keeps (holds f row) ks e k = by (is_bad_name m) refl (is_ninth m ks)
       where
         renamed : (b : Bool) → same m name ≡ b → is_bad_name m ≡ false
-            → KeptAt name (cond b (some before) l) (cond b (some row) (kept_under name ks)) (holds f row)
+            → KeptAt name (cond b (Some before) l) (cond b (Some row) (kept_under name ks)) (holds f row)
         renamed true g d = (e, ap is_bad_name (sym (same_true m name g)) ∙ d)
         renamed false g d = k
 
         by : (a : Bool) → is_bad_name m ≡ a → (b : Bool) →
-            let o : Answer × WorkspaceJournal = ended (cond a (some 16) (cond b (some 17) none)) (with (holds f row) ks) (with (holds f row) (keep_under m row ks)) in
-            KeptAt name (cond (is_accepted o.0.outcome && same m name) (some before) l) (kept_under name o.1.names) o.1.journal
+            let o : Answer × WorkspaceJournal = ended (cond a (Some 16) (cond b (Some 17) None)) (with (holds f row) ks) (with (holds f row) (keep_under m row ks)) in
+            KeptAt name (cond (is_accepted o.0.outcome && same m name) (Some before) l) (kept_under name o.1.names) o.1.journal
         by true d b = k
         by false d true = k
         by false d false = rw (kept_after name m row ks) (renamed (same m name) refl d)
@@ -95,8 +95,8 @@ module _ (name : List ℕ) (l : Option (List WorkspaceCall)) where
           let r : Answer × WorkspaceJournal = cond a (no 16 [], with (holds f row) ks) (returned o f row ks) in
           KeptAt name l (kept_under name r.1.names) r.1.journal
       by true o = k
-      by false none = k
-      by false (some edits) = other_edits name l (kept_under name ks) f row edits k
+      by false None = k
+      by false (Some edits) = other_edits name l (kept_under name ks) f row edits k
 
 -- ---- any call, any list of calls
 abbrev KeptAfter : List ℕ → Option (List WorkspaceCall) → WorkspaceJournal → Type 0
@@ -121,15 +121,15 @@ latest_from_lem name (c ∷ cs) before l k =
 
 latest_is : (name : List ℕ) (calls : List WorkspaceCall) → KeptAfter name (latest_keep name calls) (after_in calls)
 unfolding journal_after_in kept_under
-latest_is name calls = latest_from_lem name calls [] none tt
+latest_is name calls = latest_from_lem name calls [] None tt
 
 -- a name is kept if it has such a keep, and only then
 none_both : (name : List ℕ) (l : Option (List WorkspaceCall)) (o : Option (List Change)) (j : Journal) → KeptAt name l o j
-    → (o ≡ none) ↔ (l ≡ none)
-none_both name none none j k = (λ e. refl, λ e. refl)
-none_both name none (some edits) j k = absurd k
-none_both name (some before) none j k = absurd k
-none_both name (some before) (some edits) j k = (
+    → (o ≡ None) ↔ (l ≡ None)
+none_both name None None j k = (λ e. refl, λ e. refl)
+none_both name None (Some edits) j k = absurd k
+none_both name (Some before) None j k = absurd k
+none_both name (Some before) (Some edits) j k = (
   λ e. let z : ◌≡◌ {A = ℕ} 0 1 = cc in absurd (omega arith),
   λ e. let z : ◌≡◌ {A = ℕ} 0 1 = cc in absurd (omega arith),
 )
@@ -146,13 +146,13 @@ by_journal v w c e = ap (λ (j : Journal). (journal_step j c).0) e
 
 -- to what is kept
 came_back : (before : List WorkspaceCall) (name : List ℕ) (ks : List NamedEdits) (j : Journal) (o : Option (List Change)) → kept_under name ks ≡ o
-    → KeptAt name (some before) o j
+    → KeptAt name (Some before) o j
     → ((journal_return j ks name).0 ≡ ok [] []) × ((journal_return j ks name).1.journal ≡ (after_in before).journal)
 unfolding journal_return
-came_back before name ks (holds f standing) (some edits) g k = rw (k.1, g) (refl, sym k.0)
-came_back before name ks (holds f standing) none g k = absurd k
-came_back before name ks empty (some edits) g k = absurd k
-came_back before name ks empty none g k = absurd k
+came_back before name ks (holds f standing) (Some edits) g k = rw (k.1, g) (refl, sym k.0)
+came_back before name ks (holds f standing) None g k = absurd k
+came_back before name ks empty (Some edits) g k = absurd k
+came_back before name ks empty None g k = absurd k
 
 pub returns_to_latest : ReturnsToLatest
 unfolding journal_step_in
@@ -171,12 +171,12 @@ returns_to_latest calls before name e =
     }
 
 -- to nothing
-no_keep : (name : List ℕ) (ks : List NamedEdits) (j : Journal) (o : Option (List Change)) → kept_under name ks ≡ o → KeptAt name none o j
+no_keep : (name : List ℕ) (ks : List NamedEdits) (j : Journal) (o : Option (List Change)) → kept_under name ks ≡ o → KeptAt name None o j
     → is_accepted (journal_return j ks name).0.outcome ≡ false
 unfolding journal_return
-no_keep name ks j (some edits) g k = absurd k
-no_keep name ks empty none g k = refl
-no_keep name ks (holds f standing) none g k = rw g (by (is_bad_name name))
+no_keep name ks j (Some edits) g k = absurd k
+no_keep name ks empty None g k = refl
+no_keep name ks (holds f standing) None g k = rw g (by (is_bad_name name))
   where
     by : (b : Bool) → is_accepted (cond {A = Answer × WorkspaceJournal} b (no 16 [], with (holds f standing) ks) (no 18 [], with (holds f standing) ks)).0.outcome ≡ false
     by true = refl
@@ -196,8 +196,8 @@ keep_journal empty ks name = refl
 keep_journal (holds f row) ks name = by (keep_refusal name ks)
   where
     by : (o : Option ℕ) → (ended o (with (holds f row) ks) (with (holds f row) (keep_under name row ks))).1.journal ≡ holds f row
-    by none = refl
-    by (some n) = refl
+    by None = refl
+    by (Some n) = refl
 
 pub keep_is_no_edit : KeepIsNoEdit
 unfolding journal_step_in

@@ -1,9 +1,9 @@
 -- The laws of specs/Laws.antt but those of orientations. Two rows that leave the same frame, and carry every point that fits the load's
 -- frame alike, list alike; so do two rows that go on alike from the present frame. Assumes nothing.
+use Rattle.std.specs.Prelude.{Option, Some, None}
 use Prim.Native.Nat.{ℕ, zero, suc, ◌<◌}
 use mathlib.Core.Bool.{true, false≢true}
 use mathlib.Core.List.{List, [], ◌∷◌, ◌++◌, append_assoc, append-nil}
-use mathlib.Core.Option.{Option, none, some}
 use mathlib.Core.Path.{◌≡◌, refl, sym, ap, subst, ◌∙◌}
 use lib.ListN.{length, take, length-append}
 use native.Mathlib.Nat.{sub-zero}
@@ -27,34 +27,34 @@ use Rattle.journal.proofs.Refusals.{good_of}
 
 -- ---- an edit more, and further edits
 pub stays_unlisted : StaysUnlisted
-stays_unlisted f p row more e = carried_append f (some p) row more ∙ rw e (carried_none (frame_after f row) more)
+stays_unlisted f p row more e = carried_append f (Some p) row more ∙ rw e (carried_none (frame_after f row) more)
 
 moved_append : (c : Change) (f : Size) (ps qs : List FocusPoint) → moved_all c f (ps ++ qs) ≡ moved_all c f ps ++ moved_all c f qs
 unfolding moved_all
 moved_append c f [] qs = refl
 moved_append c f (p ∷ ps) qs =
-    ap (λ (l : List FocusPoint). if_listed (moved_by c f (some p)) ++ l) (moved_append c f ps qs)
-    ∙ sym (append_assoc (if_listed (moved_by c f (some p))) (moved_all c f ps) (moved_all c f qs))
+    ap (λ (l : List FocusPoint). if_listed (moved_by c f (Some p)) ++ l) (moved_append c f ps qs)
+    ∙ sym (append_assoc (if_listed (moved_by c f (Some p))) (moved_all c f ps) (moved_all c f qs))
 
 moved_one : (c : Change) (f : Size) (o : Option FocusPoint) → if_listed (moved_by c f o) ≡ moved_all c f (if_listed o)
 unfolding moved_all
-moved_one c f none = refl
-moved_one c f (some p) = sym (append-nil (if_listed (moved_by c f (some p))))
+moved_one c f None = refl
+moved_one c f (Some p) = sym (append-nil (if_listed (moved_by c f (Some p))))
 
 listed_moves : (f : Size) (row : List Change) (c : Change) (ps : List FocusPoint)
     → listed f (row ++ c ∷ []) ps ≡ moved_all c (frame_after f row) (listed f row ps)
 unfolding listed moved_all
 listed_moves f row c [] = refl
 listed_moves f row c (p ∷ ps) =
-    rw (carried_snoc f (some p) row c, moved_one c (frame_after f row) (carried f (some p) row), listed_moves f row c ps)
-    (sym (moved_append c (frame_after f row) (if_listed (carried f (some p) row)) (listed f row ps)))
+    rw (carried_snoc f (Some p) row c, moved_one c (frame_after f row) (carried f (Some p) row), listed_moves f row c ps)
+    (sym (moved_append c (frame_after f row) (if_listed (carried f (Some p) row)) (listed f row ps)))
 
 pub edit_moves : EditMoves
 edit_moves f row c = listed_moves f.frame row c f.points
 
 -- ---- two rows that list alike
 abbrev pub CarryAlike : Size → List Change → List Change → Type 0
-CarryAlike f row other = (p : FocusPoint) → point_fits f p ≡ true → carried f (some p) row ≡ carried f (some p) other
+CarryAlike f row other = (p : FocusPoint) → point_fits f p ≡ true → carried f (Some p) row ≡ carried f (Some p) other
 
 listed_alike : (f : Size) (row other : List Change) (ps : List FocusPoint) → AllFit f ps → CarryAlike f row other → listed f row ps ≡ listed f other ps
 unfolding listed
@@ -96,13 +96,13 @@ alike calls others f row other p q s e k = record {
 pub carry_alike : (f : Focus) (row more other : List Change) → CarryAlike (present_frame f row) more other
     → CarryAlike f.frame (row ++ more) (row ++ other)
 carry_alike f row more other r p h =
-    carried_append f.frame (some p) row more
-    ∙ by (carried f.frame (some p) row) (carried_fits f.frame (some p) row h)
-    ∙ sym (carried_append f.frame (some p) row other)
+    carried_append f.frame (Some p) row more
+    ∙ by (carried f.frame (Some p) row) (carried_fits f.frame (Some p) row h)
+    ∙ sym (carried_append f.frame (Some p) row other)
   where
     by : (o : Option FocusPoint) → FitsIf (present_frame f row) o → carried (present_frame f row) o more ≡ carried (present_frame f row) o other
-    by none y = carried_none (present_frame f row) more ∙ sym (carried_none (present_frame f row) other)
-    by (some q) y = r q y
+    by None y = carried_none (present_frame f row) more ∙ sym (carried_none (present_frame f row) other)
+    by (Some q) y = r q y
 
 -- and that bring every one back
 restored : (f : Focus) (row more : List Change) → CarryAlike (present_frame f row) more [] → CarryAlike f.frame (row ++ more) row
@@ -115,7 +115,7 @@ whole_cut_restores g p h =
     rw (sub-zero p.center.x, sub-zero p.center.y, le-leb 0 p.center.x (omega arith), le-leb 0 p.center.y (omega arith), h)
 
 -- an edit that is not refused
-pub taken : (f : Focus) (row : List Change) (c : Change) → change_refusal f row c ≡ none
+pub taken : (f : Focus) (row : List Change) (c : Change) → change_refusal f row c ≡ None
     → journal_step (holds f row) (change c) ≡ (ok [] [], holds f (row ++ c ∷ []))
 unfolding journal_step journal_change
 taken f row c e = rw e
@@ -123,15 +123,15 @@ taken f row c e = rw e
 -- the present frame has no zero side: the primary, where it is now, fits it
 frame_sides : (f : Focus) (row : List Change) → Right f row → (0 < (present_frame f row).width) × (0 < (present_frame f row).height)
 frame_sides f row r =
-    by (primary_after f row) (carried_fits f.frame (some (primary_of f)) row (fits_at f.frame f.points f.primary r.sound.fit r.sound.primary_in)) r.primary
+    by (primary_after f row) (carried_fits f.frame (Some (primary_of f)) row (fits_at f.frame f.points f.primary r.sound.fit r.sound.primary_in)) r.primary
   where
     by : (o : Option FocusPoint) → FitsIf (present_frame f row) o → still_listed o ≡ true
         → (0 < (present_frame f row).width) × (0 < (present_frame f row).height)
-    by none y e = absurd (false≢true e)
-    by (some q) y e = let o = fits_on_frame (present_frame f row) q y in (o.wide, o.high)
+    by None y e = absurd (false≢true e)
+    by (Some q) y e = let o = fits_on_frame (present_frame f row) q y in (o.wide, o.high)
 
 whole_taken : (f : Focus) (row : List Change) → Right f row → length row < 64
-    → change_refusal f row (cut 0 0 (present_frame f row).width (present_frame f row).height) ≡ none
+    → change_refusal f row (cut 0 0 (present_frame f row).width (present_frame f row).height) ≡ None
 unfolding change_refusal
 whole_taken f row r l =
     let g = present_frame f row in
@@ -162,9 +162,9 @@ whole_cut_lem calls f row e l =
     )
 
 -- ---- back
-accepted_none : (o : Option ℕ) (j k : Journal) → (ended o j k).0 ≡ ok [] [] → o ≡ none
-accepted_none none j k e = refl
-accepted_none (some n) j k e =
+accepted_none : (o : Option ℕ) (j k : Journal) → (ended o j k).0 ≡ ok [] [] → o ≡ None
+accepted_none None j k e = refl
+accepted_none (Some n) j k e =
     let q : ◌≡◌ {A = Outcome (List ℕ)} (refused n) (accepted []) = ap (λ (a : Answer). a.outcome) e in
     let z : ◌≡◌ {A = ℕ} 0 1 = cc in
     absurd (omega arith)

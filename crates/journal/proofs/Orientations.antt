@@ -1,10 +1,10 @@
 -- The laws of orientation calls: a list of them lists like the one call of their product, and each is one edit. The idea: the journal
 -- carries a point through orientations as the sheet's definition takes it through them, of which the product is known; a listed
 -- point is on the present frame. Assumes nothing.
+use Rattle.std.specs.Prelude.{Some, None}
 use Prim.Native.Nat.{◌+◌, ◌≤◌, ◌<◌}
 use mathlib.Core.Bool.{Bool, true, false}
 use mathlib.Core.List.{List, [], ◌∷◌, ◌++◌, map, append_assoc, append-nil}
-use mathlib.Core.Option.{none, some}
 use mathlib.Core.Path.{◌≡◌, refl, sym, ap, subst, ◌∙◌}
 use lib.Dec.{leb}
 use lib.ListN.{length, replicate, length-append, length-map}
@@ -14,7 +14,7 @@ use Rattle.reading.specs.declared.geometry.Size.{Size}
 use Rattle.placing.specs.declared.focus.FocusPoint.{FocusPoint}
 use Rattle.placing.proofs.Fitting.{fits_on_frame}
 use Rattle.placing.specs.Load.{Focus, no_point}
-use Rattle.sheet.specs.declared.orientation.Framed.{Framed}
+use Rattle.placing.specs.declared.focus.Framed.{Framed}
 use Rattle.sheet.specs.declared.orientation.Orientation.{Orientation}
 use Rattle.sheet.specs.declared.orientation.Orientation.TheVariants.{Normal, FlipHorizontal, Rotate180, FlipVertical, Transpose, Rotate90, Transverse, Rotate270}
 use Rattle.sheet.specs.Orientation.{orientation_number, framed, steps_of, oriented_by}
@@ -32,12 +32,12 @@ use Rattle.journal.proofs.Laws.{CarryAlike, alike, carry_alike, taken}
 
 -- ---- a row of orientations
 carried_orients : (os : List Orientation) (g : Size) (p : FocusPoint)
-    → carried g (some p) (map orientation_change os) ≡ some (oriented_by_each os (framed g p)).point
+    → carried g (Some p) (map orientation_change os) ≡ Some (oriented_by_each os (framed g p)).point
 unfolding carried oriented_by_each
 carried_orients [] g p = refl
 carried_orients (o ∷ os) g p =
     carried_orients os (frame_by (orientation_change o) g) (point_by (orientation_change o) g p)
-    ∙ ap (λ (r : Framed). some (oriented_by_each os r).point) (sym (oriented_is o g p))
+    ∙ ap (λ (r : Framed). Some (oriented_by_each os r).point) (sym (oriented_is o g p))
 
 frame_orients : (os : List Orientation) (g : Size) (p : FocusPoint) → frame_after g (map orientation_change os) ≡ (oriented_by_each os (framed g p)).frame
 unfolding frame_after oriented_by_each
@@ -56,7 +56,7 @@ module _ (g : Size) (os others : List Orientation) (e : product_of os ≡ produc
   points_alike p h =
       let k = fits_on_frame g p h in
       carried_orients os g p
-      ∙ ap (λ (q : Framed). some q.point) (same_place_lem (framed g p) (record { across = k.across; down = k.down }))
+      ∙ ap (λ (q : Framed). Some q.point) (same_place_lem (framed g p) (record { across = k.across; down = k.down }))
       ∙ sym (carried_orients others g p)
 
   -- seen from the corner, which is on every frame
@@ -78,7 +78,7 @@ inside Rotate90 = refl
 inside Transverse = refl
 inside Rotate270 = refl
 
-orient_taken : (f : Focus) (row : List Change) (o : Orientation) → length row < 64 → change_refusal f row (orientation_change o) ≡ none
+orient_taken : (f : Focus) (row : List Change) (o : Orientation) → length row < 64 → change_refusal f row (orientation_change o) ≡ None
 unfolding change_refusal
 orient_taken f row o r = rw (lt-leb 64 (length row) r, inside o)
 

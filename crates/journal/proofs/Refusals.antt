@@ -1,10 +1,10 @@
 -- A call is refused exactly when its refusals say: the journal's definitions by the cases of their tests, both ways. And what the
 -- journal holds is the last accepted load, so that before one every other call is refused by 7. Assumes nothing.
+use Rattle.std.specs.Prelude.{Option, Some, None}
 use Prim.Native.Nat.{ℕ, suc, ◌+◌, ◌*◌, ◌<◌}
 use mathlib.Core.Bool.{Bool, true, false, ◌||◌, cond, false≢true}
 use mathlib.Core.List.{List, [], ◌∷◌, ◌++◌}
 use mathlib.Core.Logic.{◌⊎◌, inl, inr}
-use mathlib.Core.Option.{Option, none, some}
 use mathlib.Core.Path.{◌≡◌, refl, sym, ap, subst, ◌∙◌}
 use lib.Dec.{leb, ltb, eqb}
 use lib.ListN.{length, drop}
@@ -12,7 +12,6 @@ use native.Mathlib.Omega.{arith}
 use borrow.Author.Tests.{lt-ltb, le-ltb, le-leb, lt-leb, eq-eqb, ne_eqb, ltb-true, ltb-false, leb-true, leb-false, eqb-true, eqb-false}
 use Rattle.reading.specs.Outcome.{Outcome, refused, accepted}
 use Rattle.reading.specs.declared.geometry.Size.{Size}
-use Rattle.reading.specs.declared.geometry.OptionalSize.{OptionalSize}
 use Rattle.placing.specs.declared.focus.FocusPoint.{FocusPoint}
 use Rattle.placing.specs.Fit.{has_zero_side}
 use Rattle.laws.proofs.Tests.{neither, or_first, or_second}
@@ -32,9 +31,9 @@ unfolding journal_load
 newest_load j (refused n) = refl
 newest_load j (accepted f) = refl
 
-ended_load : (o : Option ℕ) (f : Focus) (row more : List Change) → held_load (ended o (holds f row) (holds f more)).1 ≡ some f
-ended_load none f row more = refl
-ended_load (some n) f row more = refl
+ended_load : (o : Option ℕ) (f : Focus) (row more : List Change) → held_load (ended o (holds f row) (holds f more)).1 ≡ Some f
+ended_load None f row more = refl
+ended_load (Some n) f row more = refl
 
 change_load : (j : Journal) (c : Change) → held_load (journal_change j c).1 ≡ held_load j
 unfolding journal_change
@@ -62,7 +61,7 @@ pub holds_last_load : HoldsLastLoad
 holds_last_load calls = load_from empty calls
 
 -- ---- before a load
-pub no_load : (j : Journal) → held_load j ≡ none → j ≡ empty
+pub no_load : (j : Journal) → held_load j ≡ None → j ≡ empty
 no_load empty e = refl
 no_load (holds f row) e = let z : ◌≡◌ {A = ℕ} 0 1 = cc in absurd (omega arith)
 
@@ -82,13 +81,13 @@ empty_before calls c e l =
 same_number : {j : Journal} {c : Call} {m n : ℕ} → Refuses j c m → ◌≡◌ {A = Outcome (List ℕ)} (refused m) (refused n) → Refuses j c n
 same_number {j} {c} {m} {n} r e = let q : m ≡ n = cc in subst (λ (k : ℕ). Refuses j c k) q r
 
-some_number : {j : Journal} {c : Call} {m n : ℕ} → Refuses j c m → ◌≡◌ {A = Option ℕ} (some m) (some n) → Refuses j c n
+some_number : {j : Journal} {c : Call} {m n : ℕ} → Refuses j c m → ◌≡◌ {A = Option ℕ} (Some m) (Some n) → Refuses j c n
 some_number {j} {c} {m} {n} r e = let q : m ≡ n = cc in subst (λ (k : ℕ). Refuses j c k) q r
 
 pub never : (given : List ℕ) (n : ℕ) → ◌≡◌ {A = Outcome (List ℕ)} (accepted given) (refused n) → ⊥
 never given n e = let z : ◌≡◌ {A = ℕ} 0 1 = cc in omega arith
 
-no_number : (n : ℕ) → ◌≡◌ {A = Option ℕ} none (some n) → ⊥
+no_number : (n : ℕ) → ◌≡◌ {A = Option ℕ} None (Some n) → ⊥
 no_number n e = let z : ◌≡◌ {A = ℕ} 0 1 = cc in omega arith
 
 module _ (l t w h : ℕ) (f : Size) where
@@ -153,47 +152,47 @@ unfolding is_outside
 outside_of n (inl a) = or_first (ltb n 1) (ltb 8 n) (lt-ltb n 1 a)
 outside_of n (inr a) = or_second (ltb n 1) (ltb 8 n) (lt-ltb 8 n a)
 
-not_listed : (o : Option FocusPoint) → still_listed o ≡ false → o ≡ none
-not_listed none e = refl
-not_listed (some p) e = absurd (false≢true (sym e))
+not_listed : (o : Option FocusPoint) → still_listed o ≡ false → o ≡ None
+not_listed None e = refl
+not_listed (Some p) e = absurd (false≢true (sym e))
 
-own_refuses : (f : Focus) (row : List Change) (c : Change) (n : ℕ) → length row < 64 → own_refusal f row c ≡ some n
+own_refuses : (f : Focus) (row : List Change) (c : Change) (n : ℕ) → length row < 64 → own_refusal f row c ≡ Some n
     → Refuses (holds f row) (change c) n
 own_refuses f row (orient m) n r e = by (is_outside m) refl e
   where
-    by : (b : Bool) → is_outside m ≡ b → cond b (some 15) none ≡ some n → Refuses (holds f row) (change (orient m)) n
+    by : (b : Bool) → is_outside m ≡ b → cond b (Some 15) None ≡ Some n → Refuses (holds f row) (change (orient m)) n
     by true p y = some_number (outside r (outside_told m p)) y
     by false p y = absurd (no_number n y)
 own_refuses f row (cut l t w h) n r e =
     by (is_bad_cut l t w h (present_frame f row)) (still_listed (primary_after f (row ++ cut l t w h ∷ []))) refl refl e
   where
     by : (a b : Bool) → is_bad_cut l t w h (present_frame f row) ≡ a → still_listed (primary_after f (row ++ cut l t w h ∷ [])) ≡ b
-        → cond a (some 9) (cond b none (some 10)) ≡ some n → Refuses (holds f row) (change (cut l t w h)) n
+        → cond a (Some 9) (cond b None (Some 10)) ≡ Some n → Refuses (holds f row) (change (cut l t w h)) n
     by true b p q y = some_number (bad_cut r (bad_told l t w h (present_frame f row) p)) y
     by false true p q y = absurd (no_number n y)
     by false false p q y =
         some_number (drops_primary r (good_told l t w h (present_frame f row) p) (not_listed _ q)) y
 
-change_refuses : (f : Focus) (row : List Change) (c : Change) (n : ℕ) → change_refusal f row c ≡ some n → Refuses (holds f row) (change c) n
+change_refuses : (f : Focus) (row : List Change) (c : Change) (n : ℕ) → change_refusal f row c ≡ Some n → Refuses (holds f row) (change c) n
 unfolding change_refusal
 change_refuses f row c n e = by (leb 64 (length row)) refl e
   where
-    by : (b : Bool) → leb 64 (length row) ≡ b → cond b (some 8) (own_refusal f row c) ≡ some n → Refuses (holds f row) (change c) n
+    by : (b : Bool) → leb 64 (length row) ≡ b → cond b (Some 8) (own_refusal f row c) ≡ Some n → Refuses (holds f row) (change c) n
     by true p y = some_number (full (leb-true 64 (length row) p)) y
     by false p y = own_refuses f row c n (leb-false 64 (length row) p) y
 
-back_refuses : (f : Focus) (row : List Change) (n : ℕ) → back_refusal row ≡ some n → Refuses (holds f row) back n
+back_refuses : (f : Focus) (row : List Change) (n : ℕ) → back_refusal row ≡ Some n → Refuses (holds f row) back n
 unfolding back_refusal
 back_refuses f [] n e = some_number nothing_stands e
 back_refuses f (c ∷ row) n e =
     absurd (no_number n (rw (ne_eqb (suc (length row)) 0 (λ z. omega arith)) at e))
 
-ended_told : (o : Option ℕ) (j k : Journal) (c : Call) (n : ℕ) → ((m : ℕ) → o ≡ some m → Refuses j c m)
+ended_told : (o : Option ℕ) (j k : Journal) (c : Call) (n : ℕ) → ((m : ℕ) → o ≡ Some m → Refuses j c m)
     → (ended o j k).0.outcome ≡ refused n → Refuses j c n
-ended_told none j k c n r e = absurd (never [] n e)
-ended_told (some m) j k c n r e = same_number (r m refl) e
+ended_told None j k c n r e = absurd (never [] n e)
+ended_told (Some m) j k c n r e = same_number (r m refl) e
 
-load_told : (j : Journal) (block : List ℕ) (raw picture : OptionalSize) (model : List ℕ) (n : ℕ) (o : Outcome Focus)
+load_told : (j : Journal) (block : List ℕ) (raw picture : Option Size) (model : List ℕ) (n : ℕ) (o : Outcome Focus)
     → focus_of block raw picture model ≡ o → (journal_load j o).0.outcome ≡ refused n → Refuses j (load block raw picture model) n
 unfolding journal_load
 load_told j block raw picture model n (refused m) q e = same_number (not_loaded q) e

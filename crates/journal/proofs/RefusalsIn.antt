@@ -1,11 +1,11 @@
 -- The journal of a workspace holds the last accepted load, by induction over the calls: a keep or a return brings no other. And a
 -- workspace's call is refused exactly when its refusals say: the sheet's calls by proofs/Refusals.antt, keep and return by the cases of
 -- their tests, both ways. Assumes nothing.
+use Rattle.std.specs.Prelude.{Option, Some, None}
 use Prim.Native.Nat.{ℕ, ◌≤◌}
 use mathlib.Core.Bool.{Bool, true, false, ◌||◌, not, cond, false≢true}
 use mathlib.Core.List.{List, [], ◌∷◌}
 use mathlib.Core.Logic.{inl, inr}
-use mathlib.Core.Option.{Option, none, some}
 use mathlib.Core.Path.{◌≡◌, refl, subst, ap, ◌∙◌}
 use lib.Dec.{leb, ltb, eqb}
 use lib.ListN.{length}
@@ -35,10 +35,10 @@ return_load empty ks name = refl
 return_load (holds f row) ks name = by (is_bad_name name) (kept_under name ks)
   where
     by : (a : Bool) (o : Option (List Change))
-        → held_load (cond {A = Answer × WorkspaceJournal} a (no 16 [], with (holds f row) ks) (returned o f row ks)).1.journal ≡ some f
+        → held_load (cond {A = Answer × WorkspaceJournal} a (no 16 [], with (holds f row) ks) (returned o f row ks)).1.journal ≡ Some f
     by true o = refl
-    by false none = refl
-    by false (some edits) = refl
+    by false None = refl
+    by false (Some edits) = refl
 
 -- one call, then the others
 last_onward : (last : Option Focus) (c : Call) (cs : List Call) → last_from (last_from last (c ∷ [])) cs ≡ last_from last (c ∷ cs)
@@ -114,17 +114,17 @@ module _ (name : List ℕ) where
   good_of g = rw (ne_eqb (length name) 0 (λ e. omega (arith, g.some_bytes)), le-ltb 16 (length name) g.not_long)
 
   module _ (ks : List NamedEdits) where
-    ninth_told : is_ninth name ks ≡ true → (kept_under name ks ≡ none) × (8 ≤ length ks)
+    ninth_told : is_ninth name ks ≡ true → (kept_under name ks ≡ None) × (8 ≤ length ks)
     unfolding is_ninth
     ninth_told e =
         let d = both (not (is_kept (kept_under name ks))) (leb 8 (length ks)) e in
         (by (kept_under name ks) d.0, leb-true 8 (length ks) d.1)
       where
-        by : (o : Option (List Change)) → not (is_kept o) ≡ true → o ≡ none
-        by none y = refl
-        by (some edits) y = absurd (false≢true y)
+        by : (o : Option (List Change)) → not (is_kept o) ≡ true → o ≡ None
+        by None y = refl
+        by (Some edits) y = absurd (false≢true y)
 
-    ninth_of : kept_under name ks ≡ none → 8 ≤ length ks → is_ninth name ks ≡ true
+    ninth_of : kept_under name ks ≡ None → 8 ≤ length ks → is_ninth name ks ≡ true
     unfolding is_ninth
     ninth_of e h = rw (e, le-leb 8 (length ks) h)
 
@@ -135,7 +135,7 @@ module _ (name : List ℕ) where
     keep_told (holds f row) n e = by (is_bad_name name) (is_ninth name ks) refl refl e
       where
         by : (a b : Bool) → is_bad_name name ≡ a → is_ninth name ks ≡ b
-            → (ended (cond a (some 16) (cond b (some 17) none)) (with (holds f row) ks) (with (holds f row) (keep_under name row ks))).0.outcome ≡ refused n
+            → (ended (cond a (Some 16) (cond b (Some 17) None)) (with (holds f row) ks) (with (holds f row) (keep_under name row ks))).0.outcome ≡ refused n
             → RefusesIn (with (holds f row) ks) (keep name) n
         by true b p q y = same_number (bad_keep (bad_told p)) y
         by false true p q y = let d = ninth_told q in same_number (ninth (good_told p) d.0 d.1) y
@@ -150,8 +150,8 @@ module _ (name : List ℕ) where
             → (cond a (no 16 [], with (holds f row) ks) (returned o f row ks)).0.outcome ≡ refused n
             → RefusesIn (with (holds f row) ks) (return name) n
         by true o p q y = same_number (bad_return (bad_told p)) y
-        by false none p q y = same_number (no_such_name (good_told p) q) y
-        by false (some edits) p q y = absurd (never [] n y)
+        by false None p q y = same_number (no_such_name (good_told p) q) y
+        by false (Some edits) p q y = absurd (never [] n y)
 
 told_in : (w : WorkspaceJournal) (c : WorkspaceCall) (n : ℕ) → (journal_step_in w c).0.outcome ≡ refused n → RefusesIn w c n
 unfolding journal_step_in journal_sheet

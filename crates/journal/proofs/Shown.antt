@@ -1,9 +1,9 @@
 -- What is listed, in the words of demand 3: carrying a point is a test, that it fits inside every cut, and a place; so the listing
 -- is the load's points, filtered and placed. The primary stands in it after those before it. Assumes nothing.
+use Rattle.std.specs.Prelude.{Some, None}
 use Prim.Native.Nat.{suc, ◌*◌, ◌<◌}
 use mathlib.Core.Bool.{Bool, true, false, ◌&&◌, cond}
 use mathlib.Core.List.{List, [], ◌∷◌, ◌++◌, map}
-use mathlib.Core.Option.{none, some}
 use mathlib.Core.Path.{◌≡◌, refl, sym, ap, ◌∙◌}
 use lib.ListN.{get_or, length, take, drop, length-append}
 use lib.Seq.{split_at, take-append_seam, get_or-append_seam}
@@ -20,15 +20,15 @@ use Rattle.journal.proofs.Answers.{answered}
 use Rattle.journal.proofs.Holds.{right, listed_fits, fits_at}
 
 pub carried_is : (f : Size) (row : List Change) (p : FocusPoint)
-    → carried f (some p) row ≡ cond (fits_every_cut f row p) (some (place_after f row p)) none
+    → carried f (Some p) row ≡ cond (fits_every_cut f row p) (Some (place_after f row p)) None
 unfolding carried fits_every_cut place_after
 carried_is f [] p = refl
 carried_is f (c ∷ row) p = by (stays_listed c f p) (carried_is (frame_by c f) row (point_by c f p))
   where
-    by : (b : Bool) → carried (frame_by c f) (some (point_by c f p)) row
-        ≡ cond (fits_every_cut (frame_by c f) row (point_by c f p)) (some (place_after (frame_by c f) row (point_by c f p))) none
-        → carried (frame_by c f) (cond b (some (point_by c f p)) none) row
-        ≡ cond (b && fits_every_cut (frame_by c f) row (point_by c f p)) (some (place_after (frame_by c f) row (point_by c f p))) none
+    by : (b : Bool) → carried (frame_by c f) (Some (point_by c f p)) row
+        ≡ cond (fits_every_cut (frame_by c f) row (point_by c f p)) (Some (place_after (frame_by c f) row (point_by c f p))) None
+        → carried (frame_by c f) (cond b (Some (point_by c f p)) None) row
+        ≡ cond (b && fits_every_cut (frame_by c f) row (point_by c f p)) (Some (place_after (frame_by c f) row (point_by c f p))) None
     by true e = e
     by false e = carried_none (frame_by c f) row
 
@@ -38,7 +38,7 @@ listed_is f row [] = refl
 listed_is f row (p ∷ ps) = rw (carried_is f.frame row p) (by (fits_every_cut f.frame row p) (listed_is f row ps))
   where
     by : (b : Bool) → listed f.frame row ps ≡ map (place_after f.frame row) (filtered (fits_every_cut f.frame row) ps)
-        → if_listed (cond b (some (place_after f.frame row p)) none) ++ listed f.frame row ps
+        → if_listed (cond b (Some (place_after f.frame row p)) None) ++ listed f.frame row ps
         ≡ map (place_after f.frame row) (cond b (p ∷ filtered (fits_every_cut f.frame row) ps) (filtered (fits_every_cut f.frame row) ps))
     by true e = ap (λ (l : List FocusPoint). place_after f.frame row p ∷ l) e
     by false e = e
@@ -79,7 +79,7 @@ primary_in f row l h =
     let inside = listed_told (fits_every_cut f.frame row (primary_of f)) (rw (carried_is f.frame row (primary_of f)) at h) in
     let q = place_after f.frame row (primary_of f) in
     let rest = listed f.frame row (drop (suc f.primary) f.points) in
-    let there : primary_after f row ≡ some q = rw (carried_is f.frame row (primary_of f), inside) in
+    let there : primary_after f row ≡ Some q = rw (carried_is f.frame row (primary_of f), inside) in
     let parts : shown f row ≡ listed f.frame row (take f.primary f.points) ++ (q ∷ rest) =
     sym (listed_is f row f.points) ∙ listing_split f row l ∙ rw there in
     let before = listed f.frame row (take f.primary f.points) in
@@ -90,7 +90,7 @@ primary_in f row l h =
       in_every_cut = inside;
     }
   where
-    listed_told : (b : Bool) → still_listed (cond b (some (place_after f.frame row (primary_of f))) none) ≡ true → b ≡ true
+    listed_told : (b : Bool) → still_listed (cond b (Some (place_after f.frame row (primary_of f))) None) ≡ true → b ≡ true
     listed_told true e = refl
     listed_told false e = e
 

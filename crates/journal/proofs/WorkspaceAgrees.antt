@@ -1,11 +1,12 @@
 -- The claim over a workspace's calls. A workspace after calls stands for a journal with names (`journal_in`); its sheet is `Good`, and its
 -- `Places` are there, its count in range. What the sheet answers is proofs/Claim.antt's; load, keep and return add the names. Then by
 -- induction over the list. Assumes nothing.
+use Rattle.std.specs.Option.{is_some}
+use Rattle.std.specs.Prelude.{Option, Some, None}
 use Prim.Native.Nat.{ℕ, ◌+◌, ◌<◌, ◌≤◌}
 use mathlib.Core.Bool.{Bool, true, false, ◌&&◌, not, cond, false≢true}
 use mathlib.Core.List.{List, [], ◌∷◌, ◌++◌, map}
 use mathlib.Core.Logic.{◌⊎◌, inl, inr}
-use mathlib.Core.Option.{Option, none, some}
 use mathlib.Core.Path.{◌≡◌, refl, sym, ap, ap₂, ◌∙◌}
 use lib.Dec.{leb, ltb}
 use lib.ListN.{get_or, length, take, set, length-map, length-set}
@@ -61,7 +62,7 @@ counted_in w p = le-leb w.count 8 p.counted
 usable_held_in : (w : Workspace) → Held w.sheet → Places w → usable_in w ≡ true
 usable_held_in w h p = rw (counted_in w p, usable_held w.sheet h)
 
-usable_blank_in : (w : Workspace) → w.sheet.loaded ≡ false → Places w → usable_in w ≡ false
+usable_blank_in : (w : Workspace) → is_some w.sheet.load ≡ false → Places w → usable_in w ≡ false
 usable_blank_in w e p = rw (counted_in w p, usable_blank w.sheet e)
 
 -- a refused call
@@ -74,22 +75,22 @@ in_use_length w p = length-take-le w.count w.checkpoints (omega (arith, p.counte
 
 -- a name that is kept is no ninth; another is, where eight are kept
 module _ (name : List ℕ) (ks : List NamedEdits) where
-  kept_no_ninth : (edits : List Change) → kept_under name ks ≡ some edits → is_ninth name ks ≡ false
+  kept_no_ninth : (edits : List Change) → kept_under name ks ≡ Some edits → is_ninth name ks ≡ false
   unfolding is_ninth
   kept_no_ninth edits e = ap (λ (o : Option (List Change)). not (is_kept o) && leb 8 (length ks)) e
 
-  new_is_ninth : kept_under name ks ≡ none → is_ninth name ks ≡ leb 8 (length ks)
+  new_is_ninth : kept_under name ks ≡ None → is_ninth name ks ≡ leb 8 (length ks)
   unfolding is_ninth
   new_is_ninth e = ap (λ (o : Option (List Change)). not (is_kept o) && leb 8 (length ks)) e
 
   -- 16 before 17
-  bad_first : is_bad_name name ≡ true → keep_refusal name ks ≡ some 16
+  bad_first : is_bad_name name ≡ true → keep_refusal name ks ≡ Some 16
   unfolding keep_refusal
-  bad_first e = ap (λ (b : Bool). cond b (some 16) (cond (is_ninth name ks) (some 17) none)) e
+  bad_first e = ap (λ (b : Bool). cond b (Some 16) (cond (is_ninth name ks) (Some 17) None)) e
 
-  then_ninth : is_bad_name name ≡ false → keep_refusal name ks ≡ cond (is_ninth name ks) (some 17) none
+  then_ninth : is_bad_name name ≡ false → keep_refusal name ks ≡ cond (is_ninth name ks) (Some 17) None
   unfolding keep_refusal
-  then_ninth e = ap (λ (b : Bool). cond b (some 16) (cond (is_ninth name ks) (some 17) none)) e
+  then_ninth e = ap (λ (b : Bool). cond b (Some 16) (cond (is_ninth name ks) (Some 17) None)) e
 
 -- ---- keep and return on a loaded sheet
 -- the journal before, and after a keep
@@ -113,7 +114,7 @@ module _ (w : Workspace) (h : Held w.sheet) (p : Places w) (name : List ℕ) whe
   module _ (l : length name ≤ 16) where
     new_fine : Fine (checkpoint_of w.sheet name)
     unfolding checkpoint_of
-    new_fine = record { short = l; stands = h.stands; worded = h.worded }
+    new_fine = record { short = l; stands = h.stands; roomy = h.roomy }
 
     -- the places after a keep
     kept_places : (at count : ℕ) → count ≤ 8
@@ -156,7 +157,7 @@ module _ (w : Workspace) (h : Held w.sheet) (p : Places w) (name : List ℕ) whe
 
     keep_found : (at : ℕ) → Found name (in_use w) at
         → AgreeIn (after_edit (cond (ltb at 8) (leaves (keep_at w name at)) (kept_by 17 w)))
-        (ended (cond (is_ninth name (names_of w)) (some 17) none) (before w) (after_keep w name))
+        (ended (cond (is_ninth name (names_of w)) (Some 17) None) (before w) (after_keep w name))
     unfolding checkpoint_of
     keep_found at (there a r s) =
         let i : at < w.count = omega (arith, a, in_use_length w p) in
@@ -169,7 +170,7 @@ module _ (w : Workspace) (h : Held w.sheet) (p : Places w) (name : List ℕ) whe
       where
         by : at ≡ w.count → (at < 8) ⊎ (8 ≤ at)
             → AgreeIn (after_edit (cond (ltb at 8) (leaves (keep_at w name at)) (kept_by 17 w)))
-            (ended (cond (leb 8 at) (some 17) none) (before w) (after_keep w name))
+            (ended (cond (leb 8 at) (Some 17) None) (before w) (after_keep w name))
         by c (inl a) =
             rw (lt-ltb at 8 a, lt-leb 8 at a) (kept_new at c a (s (checkpoint_of w.sheet name) new_name))
         by c (inr a) = rw (le-ltb at 8 a, le-leb 8 at a) (refuses_held 17)
@@ -184,7 +185,7 @@ module _ (w : Workspace) (h : Held w.sheet) (p : Places w) (name : List ℕ) whe
       by true e = rw (bad_first name (names_of w) e) (refuses_held 16)
       by false e =
           rw (then_ninth name (names_of w) e)
-          (keep_found (name_fits name false (sym e) refl) (place_of w name) found_at)
+          (keep_found (name_fits name e) (place_of w name) found_at)
 
   -- the edits of a place are the standing ones
   comes_back : (at : ℕ) → at < w.count
@@ -204,7 +205,7 @@ module _ (w : Workspace) (h : Held w.sheet) (p : Places w) (name : List ℕ) whe
           primed = h.primed;
           stands = f.stands;
           filled = h.filled;
-          worded = f.worded;
+          roomy = f.roomy;
         }),
         record { counted = p.counted; placed = p.placed; fine = p.fine },
       )

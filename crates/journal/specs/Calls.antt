@@ -1,14 +1,14 @@
 -- Lists of calls, and what the journal answers to them. Of the sheet nothing is said here.
+use Rattle.std.specs.Prelude.{Option}
 use Rattle.std.specs.Prelude.{ℕ, Bool, true, false, List, [], ◌∷◌}
 use Rattle.reading.specs.declared.geometry.Size.{Size}
-use Rattle.reading.specs.declared.geometry.OptionalSize.{OptionalSize}
 use Rattle.placing.specs.Focus.{focus_of}
 use Rattle.journal.specs.Journal.{Change, Journal, Answer, journal_load, journal_change, journal_back, journal_list, journal_fit}
 
 -- a call with its arguments, except the sheet
 pub data Call : Type 0 where
   -- "block, raw and picture sizes (each may be missing) and model"
-  load : List ℕ → OptionalSize → OptionalSize → List ℕ → Call
+  load : List ℕ → Option Size → Option Size → List ℕ → Call
   -- cut or orientation
   change : Change → Call
   back : Call

@@ -1,11 +1,10 @@
 -- Demand 3, as one claim over every list of calls, and what follows from it, in demand 3's words. proofs/Claim.antt proves the
 -- claim; what follows is proved in proofs/Answers.antt (any sheet that is loaded), Shown.antt (what is listed), Fitted.antt,
 -- Refusals.antt and Kept.antt (a refused call).
+use Rattle.std.specs.Prelude.{Option, Some, None}
 use Rattle.std.specs.Prelude.{ℕ, ◌+◌, ◌*◌, ◌≤◌, ◌<◌, Bool, true, false, ◌&&◌, cond, List, [], ◌∷◌, ◌++◌, map, ◌↔◌, ◌⊎◌, ◌≡◌, get_or, length, take, drop}
-use Rattle.std.proofs.Math.Option.{Option, none, some}
 use Rattle.reading.specs.Outcome.{Outcome, refused, accepted}
 use Rattle.reading.specs.declared.geometry.Size.{Size}
-use Rattle.reading.specs.declared.geometry.OptionalSize.{OptionalSize}
 use Rattle.placing.specs.declared.focus.FocusPoint.{FocusPoint}
 use Rattle.placing.specs.Fit.{has_zero_side, point_fits}
 use Rattle.placing.specs.FittingLaws.{CenterNear, OnFrame}
@@ -34,7 +33,7 @@ answer calls c = (sheet_step (sheet_after fresh_sheet calls) c).0
 -- ---- the last accepted load
 abbrev pub newest : Option Focus → Outcome Focus → Option Focus
 newest last (refused n) = last
-newest last (accepted f) = some f
+newest last (accepted f) = Some f
 
 unfoldable pub last_from : Option Focus → List Call → Option Focus
 last_from last [] = last
@@ -46,11 +45,11 @@ last_from last (fit box buffer ∷ cs) = last_from last cs
 
 -- of a list of calls: none where no load of the list is accepted
 abbrev pub last_load : List Call → Option Focus
-last_load calls = last_from none calls
+last_load calls = last_from None calls
 
 abbrev pub held_load : Journal → Option Focus
-held_load empty = none
-held_load (holds f standing) = some f
+held_load empty = None
+held_load (holds f standing) = Some f
 
 -- the journal holds the last accepted load
 abbrev pub HoldsLastLoad : Type 0
@@ -58,7 +57,7 @@ HoldsLastLoad = (calls : List Call) → held_load (after calls) ≡ last_load ca
 
 -- before an accepted load the sheet is empty: any call but a load is refused by 7
 abbrev pub EmptyBefore : Type 0
-EmptyBefore = (calls : List Call) (c : Call) → last_load calls ≡ none → is_load c ≡ false → answer calls c ≡ no 7 (lent c)
+EmptyBefore = (calls : List Call) (c : Call) → last_load calls ≡ None → is_load c ≡ false → answer calls c ≡ no 7 (lent c)
 
 -- ---- what is listed
 -- where edits carry a point alone, and whether it fits inside every cut among them
@@ -143,7 +142,7 @@ pub record GoodBox (f box : Size) : Type 0 where
 -- give 1 to 6; cut 7 to 10; .. back 7, 11; list 7, 13; fit 7, 12, 13", and now 19; an orientation is "judged by 7, 8 and 15"
 pub data Refuses : Journal → Call → ℕ → Type 0 where
   -- 1 to 6, as demand 2 says
-  not_loaded : {j : Journal} {block : List ℕ} {raw picture : OptionalSize} {model : List ℕ} {n : ℕ}
+  not_loaded : {j : Journal} {block : List ℕ} {raw picture : Option Size} {model : List ℕ} {n : ℕ}
       → focus_of block raw picture model ≡ refused n → Refuses j (load block raw picture model) n
   -- "sheet is empty"
   is_empty : {c : Call} → is_load c ≡ false → Refuses empty c 7
@@ -154,7 +153,7 @@ pub data Refuses : Journal → Call → ℕ → Type 0 where
       → BadCut left top width height (present_frame f standing) → Refuses (holds f standing) (change (cut left top width height)) 9
   -- "cut would drop the primary"
   drops_primary : {f : Focus} {standing : List Change} {left top width height : ℕ} → length standing < 64
-      → GoodCut left top width height (present_frame f standing) → primary_after f (standing ++ cut left top width height ∷ []) ≡ none
+      → GoodCut left top width height (present_frame f standing) → primary_after f (standing ++ cut left top width height ∷ []) ≡ None
       → Refuses (holds f standing) (change (cut left top width height)) 10
   -- "number outside 1 to 8, after 8"
   outside : {f : Focus} {standing : List Change} {n : ℕ} → length standing < 64 → (n < 1) ⊎ (8 < n)
@@ -187,7 +186,7 @@ RefusedKeeps =
 -- "there a load does as on any sheet": after an accepted load on any sheet, also one made by hand, all goes on as the journal says
 abbrev pub LoadOnAny : Type 0
 LoadOnAny =
-    (s : Sheet) (block : List ℕ) (raw picture : OptionalSize) (model : List ℕ) (f : Focus) →
+    (s : Sheet) (block : List ℕ) (raw picture : Option Size) (model : List ℕ) (f : Focus) →
     focus_of block raw picture model ≡ accepted f →
     (calls : List Call) → run_sheet s (load block raw picture model ∷ calls) ≡ ok [] [] ∷ run_journal (holds f []) calls
 

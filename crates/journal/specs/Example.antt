@@ -1,7 +1,7 @@
 -- 01's whole case as calls, with 02's orientation: the block and the model of its first line, then orientation 6, a cut and a list call,
 -- with a buffer of one place more than the listing needs. And 02's page editor on the same photograph: two cuts, and the first again.
+use Rattle.std.specs.Prelude.{None}
 use Rattle.std.specs.Prelude.{ℕ, List, [], ◌∷◌, ◌≡◌, replicate}
-use Rattle.reading.specs.declared.geometry.OptionalSize.TheVariants.{Missing}
 use Rattle.placing.specs.Points.{d600}
 use Rattle.sheet.specs.Sheet.{fresh_sheet}
 use Rattle.workspace.specs.Workspace.{fresh_workspace}
@@ -20,7 +20,7 @@ block =
     0 ∷ 0 ∷ 0 ∷ 0 ∷ []
 
 abbrev pub whole_case : List Call
-whole_case = load block Missing Missing d600 ∷ change (orient 6) ∷ change (cut 1900 2900 400 400) ∷ list (replicate 7 9) ∷ []
+whole_case = load block None None d600 ∷ change (orient 6) ∷ change (cut 1900 2900 400 400) ∷ list (replicate 7 9) ∷ []
 
 -- three times "ok"; then "frame 400 400 points 1 primary 0 mode 1 origin 2" and "1 109 108 164 164 0". The seventh place of the buffer is kept
 abbrev pub WholeCase : Type 0
@@ -41,7 +41,7 @@ two = 116 ∷ 119 ∷ 111 ∷ []
 
 abbrev pub page_editor : List WorkspaceCall
 page_editor =
-    on_sheet (load block Missing Missing d600) ∷
+    on_sheet (load block None None d600) ∷
     on_sheet (change (orient 6)) ∷
     on_sheet (change (cut 1900 2900 400 400)) ∷
     keep one ∷

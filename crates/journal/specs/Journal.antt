@@ -2,8 +2,8 @@
 -- worked out from what it holds. Of the sheet it knows nothing: the two share what one load gives, when a point fits a frame, how
 -- it is scaled, how a blank side of a box is worked out, when a box has a frame's shape, and 01's numbers for modes, origins and in-focus.
 -- 02's orientations are here in the journal's own words.
+use Rattle.std.specs.Prelude.{Option, Some, None}
 use Rattle.std.specs.Prelude.{ℕ, ◌+◌, ◌-◌, ◌*◌, Bool, true, false, ◌&&◌, ◌||◌, cond, List, [], ◌∷◌, ◌++◌, map, leb, ltb, eqb, get_or, length, take, drop}
-use Rattle.std.proofs.Math.Option.{Option, none, some}
 use Rattle.reading.specs.Focus.{in_focus_number, mode_number}
 use Rattle.reading.specs.Outcome.{Outcome, refused, accepted}
 use Rattle.reading.specs.declared.geometry.Size.{Size}
@@ -104,8 +104,8 @@ frame_after f (c ∷ cs) = frame_after (frame_by c f) cs
 
 -- a listed point moved by an edit, or no longer listed; one that is unlisted stays so
 abbrev pub moved_by : Change → Size → Option FocusPoint → Option FocusPoint
-moved_by c f none = none
-moved_by c f (some p) = cond (stays_listed c f p) (some (point_by c f p)) none
+moved_by c f None = None
+moved_by c f (Some p) = cond (stays_listed c f p) (Some (point_by c f p)) None
 
 -- "Each point is carried alone from the load through the row": where it is then, or none where a cut has unlisted it
 unfoldable pub carried : Size → Option FocusPoint → List Change → Option FocusPoint
@@ -113,17 +113,17 @@ carried f o [] = o
 carried f o (c ∷ cs) = carried (frame_by c f) (moved_by c f o) cs
 
 abbrev pub still_listed : Option FocusPoint → Bool
-still_listed none = false
-still_listed (some p) = true
+still_listed None = false
+still_listed (Some p) = true
 
 abbrev pub if_listed : Option FocusPoint → List FocusPoint
-if_listed none = []
-if_listed (some p) = p ∷ []
+if_listed None = []
+if_listed (Some p) = p ∷ []
 
 -- "The others are listed in the load's order, where the row carried them": of some points of a load with the frame f
 unfoldable pub listed : Size → List Change → List FocusPoint → List FocusPoint
 listed f standing [] = []
-listed f standing (p ∷ ps) = if_listed (carried f (some p) standing) ++ listed f standing ps
+listed f standing (p ∷ ps) = if_listed (carried f (Some p) standing) ++ listed f standing ps
 
 -- ---- what a journal that is not empty says
 abbrev pub present_frame : Focus → List Change → Size
@@ -141,7 +141,7 @@ primary_of load = get_or load.points load.primary no_point
 
 -- where the row carries the primary
 abbrev pub primary_after : Focus → List Change → Option FocusPoint
-primary_after load standing = carried load.frame (some (primary_of load)) standing
+primary_after load standing = carried load.frame (Some (primary_of load)) standing
 
 -- the box that a fit works with. 02: one zero side "is scale(that frame side, the given frame side, the given side)", of the present frame
 abbrev pub fit_box : Focus → List Change → Size → Size
@@ -172,8 +172,8 @@ journal_load j (accepted load) = (ok [] [], holds load [])
 -- "Any other call is judged by its numbers, from what the book holds. A refused call leaves the book as it is.": the lowest
 -- number that applies, if there is one, and the journals before and after
 abbrev pub ended : {A : Type 0} → Option ℕ → A → A → Answer × A
-ended (some n) before after = (no n [], before)
-ended none before after = (ok [] [], after)
+ended (Some n) before after = (no n [], before)
+ended None before after = (ok [] [], after)
 
 -- 9: "cut has a zero side or passes the present frame"
 unfoldable pub is_bad_cut : ℕ → ℕ → ℕ → ℕ → Size → Bool
@@ -187,9 +187,9 @@ is_outside n = ltb n 1 || ltb 8 n
 -- of a cut 9, then 10: "cut would drop the primary"; of an orientation 15
 abbrev pub own_refusal : Focus → List Change → Change → Option ℕ
 own_refusal load standing (cut left top width height) =
-    cond (is_bad_cut left top width height (present_frame load standing)) (some 9)
-    (cond (still_listed (primary_after load (standing ++ cut left top width height ∷ []))) none (some 10))
-own_refusal load standing (orient n) = cond (is_outside n) (some 15) none
+    cond (is_bad_cut left top width height (present_frame load standing)) (Some 9)
+    (cond (still_listed (primary_after load (standing ++ cut left top width height ∷ []))) None (Some 10))
+own_refusal load standing (orient n) = cond (is_outside n) (Some 15) None
 
 -- 8: "64 edits stand"
 abbrev pub is_full : List Change → Bool
@@ -197,7 +197,7 @@ is_full standing = leb 64 (length standing)
 
 -- the lowest number that applies to an edit, 7 apart: 8, then its own ("15, .. after 8")
 unfoldable pub change_refusal : Focus → List Change → Change → Option ℕ
-change_refusal load standing c = cond (is_full standing) (some 8) (own_refusal load standing c)
+change_refusal load standing c = cond (is_full standing) (Some 8) (own_refusal load standing c)
 
 -- 7: "sheet is empty". "An accepted cut, turn or mirror joins the row's end", and so does an orientation in place of the two: "Each is
 -- a single edit."
@@ -208,7 +208,7 @@ journal_change (holds load standing) c =
 
 -- 11: "back, but no edit stands"
 unfoldable pub back_refusal : List Change → Option ℕ
-back_refusal standing = cond (eqb (length standing) 0) (some 11) none
+back_refusal standing = cond (eqb (length standing) 0) (Some 11) None
 
 -- "an accepted back takes the last edit off"
 unfoldable pub journal_back : Journal → Answer × Journal

@@ -2,8 +2,8 @@
 -- another as they do on a picture in the hand, every edit of a row moves what is listed before it, 64 edits can stand, and a box that is
 -- the present frame, once or some times, is accepted. proofs/Orientations.antt (orientation calls), Boxes.antt and Laws.antt (the others)
 -- prove them.
+use Rattle.std.specs.Prelude.{Some, None}
 use Rattle.std.specs.Prelude.{ℕ, ◌+◌, ◌*◌, ◌≤◌, ◌<◌, List, [], ◌∷◌, ◌++◌, map, ◌≡◌, length, replicate}
-use Rattle.std.proofs.Math.Option.{none, some}
 use Rattle.reading.specs.declared.geometry.Size.{Size}
 use Rattle.placing.specs.declared.focus.FocusPoint.{FocusPoint}
 use Rattle.placing.specs.Load.{Focus}
@@ -79,7 +79,7 @@ SixtyFourStand =
 -- an edit more moves every listed point by that edit, and a cut unlists those that do not fit
 unfoldable pub moved_all : Change → Size → List FocusPoint → List FocusPoint
 moved_all c f [] = []
-moved_all c f (p ∷ ps) = if_listed (moved_by c f (some p)) ++ moved_all c f ps
+moved_all c f (p ∷ ps) = if_listed (moved_by c f (Some p)) ++ moved_all c f ps
 
 abbrev pub EditMoves : Type 0
 EditMoves =
@@ -89,8 +89,8 @@ EditMoves =
 -- "they stay unlisted as long as that cut stands"
 abbrev pub StaysUnlisted : Type 0
 StaysUnlisted =
-    (f : Size) (p : FocusPoint) (standing more : List Change) → carried f (some p) standing ≡ none
-    → carried f (some p) (standing ++ more) ≡ none
+    (f : Size) (p : FocusPoint) (standing more : List Change) → carried f (Some p) standing ≡ None
+    → carried f (Some p) (standing ++ more) ≡ None
 
 -- 02's test of shapes is no trap: a box that is the present frame a whole number of times, no side over 4,294,967,295, is neither 12 nor
 -- 19. In it each listed point is where list has it, so many times: nothing is rounded, trimmed or dropped

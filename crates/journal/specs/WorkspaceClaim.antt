@@ -2,11 +2,11 @@
 -- and `EightAtMost`; what else follows is proved in proofs/Latest.antt (keeps and returns, and `NamesAreKept`), KeptNames.antt (names),
 -- Alone.antt (a workspace beside a sheet), RefusalsIn.antt (the last load, and when a call is refused) and AnyWorkspace.antt (what a refused
 -- call keeps, and a workspace made by hand).
+use Rattle.std.specs.Prelude.{Option, Some, None}
+use Rattle.reading.specs.declared.geometry.Size.{Size}
 use Rattle.std.specs.Prelude.{ℕ, ◌*◌, ◌<◌, ◌≤◌, Bool, true, false, ◌&&◌, cond, List, [], ◌∷◌, ◌++◌, map, ◌↔◌, ◌⊎◌, ◌≡◌, length, drop}
-use Rattle.std.proofs.Math.Option.{Option, none, some}
 use Rattle.numbers.specs.Bytes.{same}
 use Rattle.reading.specs.Outcome.{refused, accepted, is_accepted}
-use Rattle.reading.specs.declared.geometry.OptionalSize.{OptionalSize}
 use Rattle.placing.specs.Focus.{focus_of}
 use Rattle.placing.specs.Load.{Focus}
 use Rattle.sheet.specs.Sheet.{fresh_sheet}
@@ -52,16 +52,16 @@ is_load_in (return name) = false
 -- before it the workspace is empty: any call but a load is refused by 7
 abbrev pub EmptyBeforeIn : Type 0
 EmptyBeforeIn =
-    (calls : List WorkspaceCall) (c : WorkspaceCall) → last_load (sheet_calls calls) ≡ none → is_load_in c ≡ false →
+    (calls : List WorkspaceCall) (c : WorkspaceCall) → last_load (sheet_calls calls) ≡ None → is_load_in c ≡ false →
     answer_in calls c ≡ no 7 (lent_in c)
 
 -- ---- the latest accepted keep under a name since the last accepted load: the calls before it, if there is one
 -- what is known of it after one call more: an accepted load forgets it, an accepted keep under that name is it
 abbrev pub latest_by : List ℕ → List WorkspaceCall → Option (List WorkspaceCall) → WorkspaceCall → Option (List WorkspaceCall)
 latest_by name before latest (on_sheet c) =
-    cond (is_load c && is_accepted (answer_in before (on_sheet c)).outcome) none latest
+    cond (is_load c && is_accepted (answer_in before (on_sheet c)).outcome) None latest
 latest_by name before latest (keep other) =
-    cond (is_accepted (answer_in before (keep other)).outcome && same other name) (some before) latest
+    cond (is_accepted (answer_in before (keep other)).outcome && same other name) (Some before) latest
 latest_by name before latest (return other) = latest
 
 unfoldable pub latest_from : List ℕ → List WorkspaceCall → Option (List WorkspaceCall) → List WorkspaceCall → Option (List WorkspaceCall)
@@ -69,7 +69,7 @@ latest_from name before latest [] = latest
 latest_from name before latest (c ∷ cs) = latest_from name (before ++ c ∷ []) (latest_by name before latest c) cs
 
 abbrev pub latest_keep : List ℕ → List WorkspaceCall → Option (List WorkspaceCall)
-latest_keep name calls = latest_from name [] none calls
+latest_keep name calls = latest_from name [] None calls
 
 -- a return to the keep that came after the calls `before`: it is accepted; the load and the standing edits are those of then; every
 -- call of the sheet is answered as it would have been then
@@ -81,12 +81,12 @@ pub record StandsAgain (calls before : List WorkspaceCall) (name : List ℕ) : T
 -- "the standing edits after a return are those that stood at the latest accepted keep under that name"
 abbrev pub ReturnsToLatest : Type 0
 ReturnsToLatest =
-    (calls before : List WorkspaceCall) (name : List ℕ) → latest_keep name calls ≡ some before → StandsAgain calls before name
+    (calls before : List WorkspaceCall) (name : List ℕ) → latest_keep name calls ≡ Some before → StandsAgain calls before name
 
 -- without such a keep there is no coming back
 abbrev pub NoKeepNoReturn : Type 0
 NoKeepNoReturn =
-    (calls : List WorkspaceCall) (name : List ℕ) → latest_keep name calls ≡ none →
+    (calls : List WorkspaceCall) (name : List ℕ) → latest_keep name calls ≡ None →
     is_accepted (answer_in calls (return name)).outcome ≡ false
 
 -- a keep is no edit: accepted or not, every call of the sheet is answered after it as it would have been before
@@ -103,7 +103,7 @@ ComparedExactly = (a b : List ℕ) → (same a b ≡ true) ↔ (a ≡ b)
 -- "a name kept again is replaced": no name is kept twice, so that eight are eight different ones
 unfoldable pub Differ : List NamedEdits → Type 0
 Differ [] = Unit
-Differ (k ∷ ks) = (kept_under k.name ks ≡ none) × Differ ks
+Differ (k ∷ ks) = (kept_under k.name ks ≡ None) × Differ ks
 
 abbrev pub NamesDiffer : Type 0
 NamesDiffer = (calls : List WorkspaceCall) → Differ (after_in calls).names
@@ -111,7 +111,7 @@ NamesDiffer = (calls : List WorkspaceCall) → Differ (after_in calls).names
 -- the names are those that were kept since the last accepted load, and no others
 abbrev pub NamesAreKept : Type 0
 NamesAreKept =
-    (calls : List WorkspaceCall) (name : List ℕ) → (kept_under name (after_in calls).names ≡ none) ↔ (latest_keep name calls ≡ none)
+    (calls : List WorkspaceCall) (name : List ℕ) → (kept_under name (after_in calls).names ≡ None) ↔ (latest_keep name calls ≡ None)
 
 -- "at most eight names"
 abbrev pub EightAtMost : Type 0
@@ -177,10 +177,10 @@ pub data RefusesIn : WorkspaceJournal → WorkspaceCall → ℕ → Type 0 where
   bad_return : {f : Focus} {standing : List Change} {ks : List NamedEdits} {name : List ℕ} → BadName name
       → RefusesIn (with (holds f standing) ks) (return name) 16
   -- "a ninth name": eight are kept, and this is none of them
-  ninth : {f : Focus} {standing : List Change} {ks : List NamedEdits} {name : List ℕ} → GoodName name → kept_under name ks ≡ none
+  ninth : {f : Focus} {standing : List Change} {ks : List NamedEdits} {name : List ℕ} → GoodName name → kept_under name ks ≡ None
       → 8 ≤ length ks → RefusesIn (with (holds f standing) ks) (keep name) 17
   -- "no such name"
-  no_such_name : {f : Focus} {standing : List Change} {ks : List NamedEdits} {name : List ℕ} → GoodName name → kept_under name ks ≡ none
+  no_such_name : {f : Focus} {standing : List Change} {ks : List NamedEdits} {name : List ℕ} → GoodName name → kept_under name ks ≡ None
       → RefusesIn (with (holds f standing) ks) (return name) 18
 
 -- a call is refused exactly when its refusals say
@@ -198,7 +198,7 @@ RefusedKeepsIn =
 -- after an accepted load on any workspace all goes on as the journal says, without names
 abbrev pub LoadOnAnyIn : Type 0
 LoadOnAnyIn =
-    (w : Workspace) (block : List ℕ) (raw picture : OptionalSize) (model : List ℕ) (f : Focus) →
+    (w : Workspace) (block : List ℕ) (raw picture : Option Size) (model : List ℕ) (f : Focus) →
     focus_of block raw picture model ≡ accepted f →
     (calls : List WorkspaceCall) →
     run_workspace w (on_sheet (load block raw picture model) ∷ calls) ≡ ok [] [] ∷ run_journal_in (with (holds f []) []) calls

@@ -1,8 +1,8 @@
 -- 02, 2026-03 "Named stands": "The book holds the names too". The journal of a workspace is that of its sheet with the kept names. It is
 -- fed the calls alone, and of the workspace it knows nothing: no places and no counts. The two share when a name is empty or too long, and
 -- when two names are the same.
+use Rattle.std.specs.Prelude.{Option, Some, None}
 use Rattle.std.specs.Prelude.{ℕ, Bool, true, false, ◌&&◌, not, cond, List, [], ◌∷◌, leb, length}
-use Rattle.std.proofs.Math.Option.{Option, none, some}
 use Rattle.numbers.specs.Bytes.{same}
 use Rattle.reading.specs.Outcome.{is_accepted}
 use Rattle.placing.specs.Load.{Focus}
@@ -29,8 +29,8 @@ empty_in = with empty []
 -- ---- names, which are bytes and compared exactly
 -- the edits kept under a name, if there are any
 unfoldable pub kept_under : List ℕ → List NamedEdits → Option (List Change)
-kept_under name [] = none
-kept_under name (k ∷ ks) = cond (same k.name name) (some k.edits) (kept_under name ks)
+kept_under name [] = None
+kept_under name (k ∷ ks) = cond (same k.name name) (Some k.edits) (kept_under name ks)
 
 -- "Keep the standing edits under a name ..; a name kept again is replaced"
 unfoldable pub keep_under : List ℕ → List Change → List NamedEdits → List NamedEdits
@@ -39,8 +39,8 @@ keep_under name edits (k ∷ ks) =
     cond (same k.name name) (record { name = name; edits = edits } ∷ ks) (k ∷ keep_under name edits ks)
 
 abbrev pub is_kept : Option (List Change) → Bool
-is_kept none = false
-is_kept (some edits) = true
+is_kept None = false
+is_kept (Some edits) = true
 
 -- 17, "a ninth name": eight are kept, and this is none of them
 unfoldable pub is_ninth : List ℕ → List NamedEdits → Bool
@@ -72,7 +72,7 @@ journal_sheet w c = (
 
 -- "Errors: 16, name empty or too long; 17, a ninth name; 18, no such name; all after 7, in that order."
 unfoldable pub keep_refusal : List ℕ → List NamedEdits → Option ℕ
-keep_refusal name ks = cond (is_bad_name name) (some 16) (cond (is_ninth name ks) (some 17) none)
+keep_refusal name ks = cond (is_bad_name name) (Some 16) (cond (is_ninth name ks) (Some 17) None)
 
 -- "Keep the standing edits under a name": they stand on as they are
 unfoldable pub journal_keep : Journal → List NamedEdits → List ℕ → Answer × WorkspaceJournal
@@ -82,8 +82,8 @@ journal_keep (holds load standing) ks name =
 
 -- "Coming back makes the kept edits the standing ones"
 abbrev pub returned : Option (List Change) → Focus → List Change → List NamedEdits → Answer × WorkspaceJournal
-returned none load standing ks = (no 18 [], with (holds load standing) ks)
-returned (some edits) load standing ks = (ok [] [], with (holds load edits) ks)
+returned None load standing ks = (no 18 [], with (holds load standing) ks)
+returned (Some edits) load standing ks = (ok [] [], with (holds load edits) ks)
 
 unfoldable pub journal_return : Journal → List NamedEdits → List ℕ → Answer × WorkspaceJournal
 journal_return empty ks name = (no 7 [], with empty ks)

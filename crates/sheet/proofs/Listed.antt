@@ -14,7 +14,7 @@ use Rattle.placing.specs.Laid.{places}
 use Rattle.sheet.specs.declared.edits.Carried.{Carried}
 use Rattle.sheet.specs.declared.Sheet.{Sheet}
 use Rattle.sheet.specs.declared.Present.{Present}
-use Rattle.sheet.specs.Sheet.{placed_at}
+use Rattle.sheet.specs.Sheet.{load_on, placed_at}
 use Rattle.sheet.specs.Lists.{if_carried, listed_to}
 use Rattle.sheet.specs.Inside.{listed_between, present_of}
 use Rattle.sheet.proofs.Walked.{reached, as_placed}
@@ -63,7 +63,7 @@ module _ (s : Sheet) (a : ℕ) where
     pub place_left : n < 39
     place_left = omega (arith, r.0, between_length i)
 
-    module _ (ha : a ≤ i) (q : Carried) (l : s.standing ≤ 64) (e : q ≡ reached s i) (m : ℕ) (qs : List FocusPoint) where
+    module _ (ha : a ≤ i) (q : Carried) (l : s.row.count ≤ 64) (e : q ≡ reached s i) (m : ℕ) (qs : List FocusPoint) where
       pub one_in : q.listed ≡ true → m ≡ n + 1 → qs ≡ set ps n q.point → Row (i + 1) m qs
       one_in t em eq =
           let b = place_left in
@@ -78,21 +78,21 @@ module _ (s : Sheet) (a : ℕ) where
 
   -- once the primary has been seen, its place and its index are known
   abbrev pub Seen : ℕ → Carried → ℕ → Type 0
-  Seen i q k = s.primary < i → (q ≡ placed_at s s.primary) × (k ≡ length (listed_between s a s.primary))
+  Seen i q k = (load_on s).primary < i → (q ≡ placed_at s (load_on s).primary) × (k ≡ length (listed_between s a (load_on s).primary))
 
   module _ (i : ℕ) (q : Carried) (k : ℕ) where
-    pub seen_now : (n : ℕ) → n ≡ length (listed_between s a i) → i ≡ s.primary → (p : Carried) → s.standing ≤ 64 → p ≡ reached s i → q ≡ p → k ≡ n
+    pub seen_now : (n : ℕ) → n ≡ length (listed_between s a i) → i ≡ (load_on s).primary → (p : Carried) → s.row.count ≤ 64 → p ≡ reached s i → q ≡ p → k ≡ n
         → Seen (i + 1) q k
     seen_now n en h p l e eq ek g = (
       eq ∙ as_placed s i p l e ∙ ap (placed_at s) h,
       ek ∙ en ∙ ap (λ (j : ℕ). length (listed_between s a j)) h,
     )
 
-    pub seen_before : (i ≡ s.primary → ⊥) → (q₀ : Carried) (k₀ : ℕ) → Seen i q₀ k₀ → q ≡ q₀ → k ≡ k₀ → Seen (i + 1) q k
+    pub seen_before : (i ≡ (load_on s).primary → ⊥) → (q₀ : Carried) (k₀ : ℕ) → Seen i q₀ k₀ → q ≡ q₀ → k ≡ k₀ → Seen (i + 1) q k
     seen_before h q₀ k₀ g eq ek l = let z = g (omega arith) in (eq ∙ z.0, ek ∙ z.1)
 
-  pub all_seen : (b i n k : ℕ) (q : Carried) (ps : List FocusPoint) → i ≤ b → b ≤ i → s.primary < b → Row i n ps → Seen i q k
-      → ◌≡◌ {A = Present} (record { primary_place = q; points = ps; count = n; index = k }) (present_of s a b)
+  pub all_seen : (b i n k : ℕ) (q : Carried) (ps : List FocusPoint) → i ≤ b → b ≤ i → (load_on s).primary < b → Row i n ps → Seen i q k
+      → ◌≡◌ {A = Present} (record { primary = q; points = ps; count = n; index = k }) (present_of s a b)
   unfolding present_of
   all_seen b i n k q ps h₁ h₂ h r g =
       let e : i ≡ b = omega arith in

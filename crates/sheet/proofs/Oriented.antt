@@ -5,7 +5,7 @@ use mathlib.Core.Path.{◌≡◌, refl, sym, ap, ◌∙◌}
 use native.Mathlib.Omega.{arith}
 use lib.Dec.{eqb}
 use Rattle.reading.specs.declared.geometry.Point.{Point}
-use Rattle.sheet.specs.declared.orientation.Framed.{Framed}
+use Rattle.placing.specs.declared.focus.Framed.{Framed}
 use Rattle.sheet.specs.declared.orientation.Orientation.{Orientation}
 use Rattle.sheet.specs.declared.orientation.Orientation.TheVariants.{Normal, FlipHorizontal, Rotate180, FlipVertical, Transpose, Rotate90, Transverse, Rotate270}
 use Rattle.sheet.specs.Orientation.{orientation_number, turned_by, steps_of, oriented_by}

@@ -7,7 +7,7 @@ use mathlib.Core.List.{[], ◌∷◌}
 use mathlib.Core.Path.{◌≡◌, refl, sym, ap, ◌∙◌}
 use lib.ListN.{get_or}
 use native.Mathlib.Omega.{arith}
-use Rattle.sheet.specs.declared.orientation.Framed.{Framed}
+use Rattle.placing.specs.declared.focus.Framed.{Framed}
 use Rattle.sheet.specs.declared.orientation.Orientation.{Orientation}
 use Rattle.sheet.specs.declared.orientation.Orientation.TheVariants.{Normal, FlipHorizontal, Rotate180, FlipVertical, Transpose, Rotate90, Transverse, Rotate270}
 use Rattle.sheet.specs.Orientation.{turned, mirrored, turned_by, Steps, turns, mirror_then, steps_of, taken, oriented_by}

@@ -1,15 +1,13 @@
 -- 01, 'Numbers returned', and 02's 15: how an edit or back ends.
-use Rattle.std.specs.Prelude.{ℕ, List, []}
-use Rattle.reading.specs.Outcome.{Outcome, refused, accepted}
-use Rattle.sheet.specs.declared.edits.EditAnswer.{EditAnswer}
-use Rattle.sheet.specs.declared.edits.EditAnswer.TheVariants.{Accepted, Empty, Full, BadCut, DropsPrimary, NothingStands, NoOrientation}
+use Rattle.std.specs.Prelude.{ℕ}
+use Rattle.sheet.specs.declared.edits.EditRefusal.{EditRefusal}
+use Rattle.sheet.specs.declared.edits.EditRefusal.TheVariants.{Empty, Full, BadCut, DropsPrimary, NothingStands, NoOrientation}
 
--- what the code's answer means: accepted, with no numbers to give, or refused by the documents' number
-abbrev pub edit_means : EditAnswer → Outcome (List ℕ)
-edit_means Accepted = accepted []
-edit_means Empty = refused 7
-edit_means Full = refused 8
-edit_means BadCut = refused 9
-edit_means DropsPrimary = refused 10
-edit_means NothingStands = refused 11
-edit_means NoOrientation = refused 15
+-- the documents' number for each way in which an edit is refused
+abbrev pub edit_refusal_number : EditRefusal → ℕ
+edit_refusal_number Empty = 7
+edit_refusal_number Full = 8
+edit_refusal_number BadCut = 9
+edit_refusal_number DropsPrimary = 10
+edit_refusal_number NothingStands = 11
+edit_refusal_number NoOrientation = 15

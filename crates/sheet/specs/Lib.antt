@@ -3,6 +3,7 @@ pub mod OrientationLaws
 pub mod Place
 pub mod WalkLaws
 pub mod Answer
+pub mod Head
 pub mod Listing
 pub mod Sheet
 pub mod Lists

@@ -1,26 +1,28 @@
 -- 01, "After the sheet": six numbers a point in a lent buffer, and what is said beside them.
-use Rattle.std.specs.Prelude.{ℕ, ◌*◌, Bool, cond, ◌&&◌, List, [], ◌∷◌, ◌++◌, leb, length, take, drop}
+use Rattle.std.specs.Prelude.{ℕ, ◌*◌, Bool, cond, ◌&&◌, List, [], ◌∷◌, ◌++◌, leb, length, take, drop, Result, Ok, Err}
 use Rattle.reading.specs.Outcome.{Outcome, refused, accepted}
-use Rattle.reading.specs.Focus.{in_focus_number, mode_number}
+use Rattle.reading.specs.Focus.{in_focus_number}
 use Rattle.placing.specs.declared.focus.FocusPoint.{FocusPoint}
-use Rattle.placing.specs.Load.{origin_number}
-use Rattle.sheet.specs.declared.listing.ListHead.{ListHead}
-use Rattle.sheet.specs.declared.listing.ListAnswer.{ListAnswer}
-use Rattle.sheet.specs.declared.listing.ListAnswer.TheVariants.{Empty, ZeroBox, ShapesDiffer, Short, Listed}
+use Rattle.sheet.specs.Head.{head_of}
+use Rattle.sheet.specs.declared.head.ListHead.{ListHead}
+use Rattle.sheet.specs.declared.listing.ListRefusal.{ListRefusal}
+use Rattle.sheet.specs.declared.listing.ListRefusal.TheVariants.{Empty, ZeroBox, ShapesDiffer, Short}
 
--- "The answer holds frame, count, primary's index from 0, mode .., origin", in 01's numbers
-unfoldable pub head_numbers : ListHead → List ℕ
-head_numbers l =
-    l.frame.width ∷
-    l.frame.height ∷ l.count ∷ l.index ∷ mode_number l.mode ∷ origin_number l.origin ∷ []
+-- what a head says, in 01's numbers
+abbrev pub head_numbers : ListHead → List ℕ
+head_numbers l = head_of l.frame l.count l.index l.mode l.origin
 
--- what the code's answer means: the documents' number for each refusal, or the numbers that are given
-abbrev pub list_means : ListAnswer → Outcome (List ℕ)
-list_means Empty = refused 7
-list_means ZeroBox = refused 12
-list_means ShapesDiffer = refused 19
-list_means Short = refused 13
-list_means (Listed l) = accepted (head_numbers l)
+-- the documents' number for each refusal
+abbrev pub list_refusal_number : ListRefusal → ℕ
+list_refusal_number Empty = 7
+list_refusal_number ZeroBox = 12
+list_refusal_number ShapesDiffer = 19
+list_refusal_number Short = 13
+
+-- what the code's result means: the numbers that are given, or that of the refusal
+abbrev pub list_means : Result ListHead ListRefusal → Outcome (List ℕ)
+list_means (Ok l) = accepted (head_numbers l)
+list_means (Err why) = refused (list_refusal_number why)
 
 -- "six 32-bit numbers a point: number (0 if recorded), x, y, width, height (both 0 without area), in-focus"
 unfoldable pub six : FocusPoint → List ℕ

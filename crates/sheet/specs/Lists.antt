@@ -8,10 +8,10 @@ use Rattle.placing.specs.Scale.{scaled_point}
 use Rattle.shape.specs.Shape.{same_shape}
 use Rattle.shape.specs.WorkedBox.{worked_box}
 use Rattle.sheet.specs.declared.edits.Carried.{Carried}
-use Rattle.sheet.specs.Listing.{head_numbers, flat, over}
+use Rattle.sheet.specs.Head.{head_of}
+use Rattle.sheet.specs.Listing.{flat, over}
 use Rattle.sheet.specs.declared.Sheet.{Sheet}
-use Rattle.sheet.specs.declared.listing.ListHead.{ListHead}
-use Rattle.sheet.specs.Sheet.{usable, placed_at, present_frame}
+use Rattle.sheet.specs.Sheet.{load_on, usable, placed_at, present_frame}
 
 -- a point, if no standing cut dropped it
 abbrev pub if_carried : Carried → List FocusPoint
@@ -24,7 +24,7 @@ listed_to s (suc i) = listed_to s i ++ if_carried (placed_at s i)
 
 -- all points that are listed
 unfoldable pub listing : Sheet → List FocusPoint
-listing s = listed_to s s.count
+listing s = listed_to s (load_on s).count
 
 -- "count is their number"
 unfoldable pub list_count : Sheet → ℕ
@@ -32,21 +32,20 @@ list_count s = length (listing s)
 
 -- "the primary's index its place among them"
 unfoldable pub list_index : Sheet → ℕ
-list_index s = length (listed_to s s.primary)
+list_index s = length (listed_to s (load_on s).primary)
 
 -- 13, for a buffer of m places: "buffer shorter than 6 × count"
 unfoldable pub is_short : Sheet → ℕ → Bool
 is_short s m = ltb m (6 * list_count s)
 
 -- what a listing in the frame f answers
-unfoldable pub head_in : Size → Sheet → ListHead
-head_in f s =
-    record { frame = f; count = list_count s; index = list_index s; mode = s.area_mode; origin = s.origin }
+unfoldable pub head_in : Size → Sheet → List ℕ
+head_in f s = head_of f (list_count s) (list_index s) (load_on s).area_mode (load_on s).origin
 
 -- how list ends, for a buffer of m places: 7, 13, or what is given
 unfoldable pub list_outcome : Sheet → ℕ → Outcome (List ℕ)
 list_outcome s m =
-    cond (usable s) (cond (is_short s m) (refused 13) (accepted (head_numbers (head_in (present_frame s) s)))) (refused 7)
+    cond (usable s) (cond (is_short s m) (refused 13) (accepted (head_in (present_frame s) s))) (refused 7)
 
 -- the buffer that list leaves
 unfoldable pub list_buffer : Sheet → List ℕ → List ℕ
@@ -63,7 +62,7 @@ outcome_in_box s box m =
     cond (usable s)
     (cond (has_zero_side box) (refused 12)
     (cond (same_shape (present_frame s) box)
-    (cond (is_short s m) (refused 13) (accepted (head_numbers (head_in box s))))
+    (cond (is_short s m) (refused 13) (accepted (head_in box s)))
     (refused 19)))
     (refused 7)
 

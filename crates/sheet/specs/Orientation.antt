@@ -1,15 +1,14 @@
 -- 2026-02, "Exif orientation in one call": the eight orientations and their numbers, by 01's turn and mirror of a point.
-use Rattle.std.specs.Prelude.{ℕ, zero, suc, ◌-◌, ◌||◌, cond, List, [], ◌∷◌, ltb, get_or}
+use Rattle.std.specs.Prelude.{ℕ, zero, suc, ◌-◌, ◌||◌, cond, List, [], ◌∷◌, ltb, get_or, ◌≡◌, Result, MatchResult}
 use Rattle.reading.specs.Outcome.{Outcome, refused, accepted}
 use Rattle.reading.specs.declared.geometry.Size.{Size}
 use Rattle.reading.specs.declared.geometry.Point.{Point}
 use Rattle.placing.specs.declared.focus.FocusPoint.{FocusPoint}
 use Rattle.placing.specs.Fit.{swapped}
-use Rattle.sheet.specs.declared.orientation.Framed.{Framed}
+use Rattle.placing.specs.declared.focus.Framed.{Framed}
 use Rattle.sheet.specs.declared.orientation.Orientation.{Orientation}
 use Rattle.sheet.specs.declared.orientation.Orientation.TheVariants.{Normal, FlipHorizontal, Rotate180, FlipVertical, Transpose, Rotate90, Transverse, Rotate270}
-use Rattle.sheet.specs.declared.orientation.OptionalOrientation.{OptionalOrientation}
-use Rattle.sheet.specs.declared.orientation.OptionalOrientation.TheVariants.{Outside, Given}
+use Rattle.sheet.specs.declared.orientation.UnknownOrientation.{UnknownOrientation}
 
 -- ---- numbers
 -- "Cameras write an orientation from 1 to 8": the eight in this order
@@ -31,10 +30,10 @@ orientation_number Rotate270 = 8
 unfoldable pub orientation_of : ℕ → Outcome Orientation
 orientation_of n = cond (ltb n 1 || ltb 8 n) (refused 15) (accepted (get_or eight (n - 1) Normal))
 
--- what the code's value means
-abbrev pub orientation_means : OptionalOrientation → Outcome Orientation
-orientation_means Outside = refused 15
-orientation_means (Given o) = accepted o
+-- the code's result is the orientation of a number, or that number, which stands for none
+abbrev pub StandsFor : ℕ → Result Orientation UnknownOrientation → Type 0
+StandsFor n r =
+    MatchResult r (λ o. orientation_of n ≡ accepted o) (λ e. (orientation_of n ≡ refused 15) × (e.0 ≡ n))
 
 -- ---- 01's turn and mirror
 abbrev pub point : ℕ → ℕ → Point

@@ -5,7 +5,7 @@ use Rattle.std.specs.Prelude.{ℕ, ◌+◌, ◌*◌, ◌%◌, ◌≤◌, ◌<◌
 use Rattle.reading.specs.Outcome.{refused, accepted}
 use Rattle.reading.specs.declared.focus.InFocus.TheVariants.{Yes}
 use Rattle.placing.specs.Fit.{by}
-use Rattle.sheet.specs.declared.orientation.Framed.{Framed}
+use Rattle.placing.specs.declared.focus.Framed.{Framed}
 use Rattle.sheet.specs.declared.orientation.Orientation.{Orientation}
 use Rattle.sheet.specs.declared.orientation.Orientation.TheVariants.{Normal, FlipHorizontal, Rotate180, FlipVertical, Transpose, Rotate90, Transverse, Rotate270}
 use Rattle.sheet.specs.Orientation.{eight, orientation_number, orientation_of, point, turned, mirrored, Steps, turns, mirror_then, steps_of, oriented_by}

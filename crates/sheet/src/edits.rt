@@ -1,32 +1,58 @@
 // An edit, and one point under edits.
-ghost use Rattle.std.specs.Prelude.{◌≡◌, ◌&&◌, ◌+◌, ◌<◌, ◌≤◌, min, leb};
-ghost use Rattle.reading.specs.Outcome.{number_of};
-ghost use Rattle.sheet.specs.Answer.{edit_means};
-ghost use Rattle.sheet.specs.Place.{shifted_point, stays_on, cut_point, moved, words_of, edit_at, placed, walked, is_good_cut};
-ghost use Rattle.sheet.specs.Inside.{carried_by, walk_end};
+ghost use Rattle.std.specs.Prelude.{◌≡◌, ◌+◌, ◌≤◌, min};
+ghost use Rattle.sheet.specs.Answer.{edit_refusal_number};
+ghost use Rattle.sheet.specs.Place.{shifted_point, stays_on, cut_point, moved, placed, walked};
+ghost use Rattle.sheet.specs.Sheet.{no_edits};
+ghost use Rattle.sheet.specs.Inside.{carried_by};
+ghost use Rattle.sheet.specs.declared.edits.EditRefusal.TheVariants.{NoOrientation};
 
-use crate::orientation::{OptionalOrientation, Orientation};
-use crate::subtraction::less;
-use placing::focus::FocusPoint;
+use crate::orientation::{Orientation, UnknownOrientation};
+use placing::focus::{FocusPoint, Framed};
 use reading::focus::InFocus;
-use reading::geometry::{Point, Size};
+use reading::geometry::{Point, Rectangle, Size};
 
-// One of the eight orientations, or a cut to a rectangle.
-#[derive(Clone, Copy)]
+// How many edits may stand.
+pub const MOST_EDITS: usize = 64;
+
+// A cut to a rectangle, or one of the eight orientations.
+#[derive(Clone, Copy, PartialEq, Eq, Debug)]
 pub enum Edit {
+    Cut(Rectangle),
     Orient(Orientation),
-    Cut {
-        left: u32,
-        top: u32,
-        width: u32,
-        height: u32,
-    },
 }
 
-// How cut, orient and back end: accepted, or refused by 01's numbers 7 to 11 or 02's 15, in this order.
-#[derive(Clone, Copy)]
-pub enum EditAnswer {
-    Accepted,
+// What stands in a place without an edit.
+pub const BLANK_EDIT: Edit = Edit::Cut(Rectangle {
+    left: 0,
+    top: 0,
+    width: 0,
+    height: 0,
+});
+
+// The edits that stand, in their order: the first `count` of 64 places hold one each.
+// kept: a count beside an array, since a row is handed over by value in fixed memory, without a heap.
+#[derive(Clone, Copy, PartialEq, Eq, Debug)]
+pub struct Row {
+    pub edits: [Edit; MOST_EDITS],
+    pub count: usize,
+}
+
+impl Row {
+    // A row without an edit.
+    #[tactic(auto, unfolding(crate::specs::Sheet::no_edits))]
+    pub fn new() -> Row
+        ensures { result ≡ no_edits }
+    {
+        Row {
+            edits: [BLANK_EDIT; MOST_EDITS],
+            count: 0,
+        }
+    }
+}
+
+// Why cut, orient and back refuse: 01's numbers 7 to 11 and 02's 15, in this order.
+#[derive(Clone, Copy, PartialEq, Eq, Debug)]
+pub enum EditRefusal {
     Empty,
     Full,
     BadCut,
@@ -35,161 +61,95 @@ pub enum EditAnswer {
     NoOrientation,
 }
 
+impl From<EditRefusal> for u32 {
+    ghost from_gives = { λ why number. number ≡ edit_refusal_number why };
+
+    fn from(why: EditRefusal) -> u32 {
+        match why {
+            EditRefusal::Empty => 7,
+            EditRefusal::Full => 8,
+            EditRefusal::BadCut => 9,
+            EditRefusal::DropsPrimary => 10,
+            EditRefusal::NothingStands => 11,
+            EditRefusal::NoOrientation => 15,
+        }
+    }
+}
+
+impl From<UnknownOrientation> for EditRefusal {
+    ghost from_gives = { λ _ why. why ≡ NoOrientation };
+
+    fn from(_number: UnknownOrientation) -> EditRefusal {
+        EditRefusal::NoOrientation
+    }
+}
+
 // A point after some edits: whether no cut dropped it, where it is, and the frame that it is in.
-#[derive(Clone, Copy)]
+// kept: tried a `Framed` in place of the last two, slower than the form before it: a list of 39 points behind 64 turns took 9.7 µs in
+// place of 7.7.
+#[derive(Clone, Copy, PartialEq, Eq, Debug)]
 pub struct Carried {
     pub listed: bool,
     pub point: FocusPoint,
     pub frame: Size,
 }
 
-// The documents' number for how cut, orient and back end, 0 for accepted.
-pub fn edit_number(answer: EditAnswer) -> u32
-    ensures { result ≡ number_of (edit_means answer) }
+// A point measured from a rectangle's corner, a coordinate that lies before it as 0.
+fn shifted_point(to: Rectangle, point: FocusPoint) -> FocusPoint
+    ensures { result ≡ shifted_point to.left to.top point }
 {
-    match answer {
-        EditAnswer::Accepted => 0,
-        EditAnswer::Empty => 7,
-        EditAnswer::Full => 8,
-        EditAnswer::BadCut => 9,
-        EditAnswer::DropsPrimary => 10,
-        EditAnswer::NothingStands => 11,
-        EditAnswer::NoOrientation => 15,
-    }
-}
-
-// A point measured from `left` and `top`, a coordinate that lies before them as 0.
-fn shifted_point(left: u32, top: u32, point: FocusPoint) -> FocusPoint
-    ensures { result ≡ shifted_point left top point }
-{
-    let from = point.center;
-    let size = point.size;
-    let in_focus = point.in_focus;
+    let Point { x, y } = point.center;
     let center = Point {
-        x: less(from.x, left),
-        y: less(from.y, top),
+        x: x.saturating_sub(to.left),
+        y: y.saturating_sub(to.top),
     };
-    FocusPoint {
-        number: point.number,
-        center,
-        size,
-        in_focus,
-    }
+    FocusPoint { center, ..point }
 }
 
 // Whether a point lies on the rectangle of a cut.
-fn stays_on(left: u32, top: u32, width: u32, height: u32, point: FocusPoint) -> bool
-    ensures { result ≡ stays_on left top width height point }
+#[tactic(auto, unfolding(crate::specs::Place::stays_on))]
+fn stays_on(to: Rectangle, point: FocusPoint) -> bool
+    ensures { result ≡ stays_on to.left to.top to.width to.height point }
 {
-    let center = point.center;
-    if center.x < left {
-        return false;
-    }
-    if center.y < top {
-        return false;
-    }
-    let frame = Size { width, height };
-    placing::focus::point_fits(frame, shifted_point(left, top, point))
+    to.left <= point.center.x
+        && to.top <= point.center.y
+        && placing::focus::point_fits(to.size(), shifted_point(to, point))
 }
 
-// A point after a cut: a point that was dropped stays so.
-pub fn cut_point(left: u32, top: u32, width: u32, height: u32, place: Carried) -> Carried
-    ensures { result ≡ cut_point left top width height place }
-{
-    let from = place.point;
-    let stays = stays_on(left, top, width, height, from);
-    let point = shifted_point(left, top, from);
-    let frame = Size { width, height };
-    Carried {
-        listed: place.listed & stays,
-        point,
-        frame,
+impl Carried {
+    // The point after a cut: one that was dropped stays so.
+    #[tactic(auto, unfolding(crate::specs::Place::cut_point))]
+    pub fn cut_to(self, to: Rectangle) -> Carried
+        ensures { result ≡ cut_point to.left to.top to.width to.height self }
+    {
+        Carried {
+            listed: self.listed & stays_on(to, self.point),
+            point: shifted_point(to, self.point),
+            frame: to.size(),
+        }
     }
-}
 
-// A point and its frame, moved by one edit.
-fn move_by(edit: Edit, place: Carried) -> Carried
-    ensures { result ≡ moved edit place }
-{
-    let from = place.point;
-    let frame = place.frame;
-    match edit {
-        Edit::Orient(orientation) => {
-            let oriented = crate::orientation::oriented(orientation, frame, from);
-            let point = oriented.point;
-            let after = oriented.frame;
-            Carried {
-                listed: place.listed,
-                point,
-                frame: after,
+    // The point and its frame, moved by one edit.
+    #[tactic(auto, unfolding(crate::specs::Place::moved))]
+    fn moved_by(self, edit: Edit) -> Carried
+        ensures { result ≡ moved edit self }
+    {
+        match edit {
+            Edit::Orient(orientation) => {
+                let Carried {
+                    listed,
+                    point,
+                    frame,
+                } = self;
+                let Framed { frame, point } = orientation.apply(Framed { frame, point });
+                Carried {
+                    listed,
+                    point,
+                    frame,
+                }
             }
+            Edit::Cut(to) => self.cut_to(to),
         }
-        Edit::Cut {
-            left,
-            top,
-            width,
-            height,
-        } => cut_point(left, top, width, height, place),
-    }
-}
-
-// Whether `side` pixels from `start` on end within `limit`.
-fn span_inside(start: u32, side: u32, limit: u32) -> bool
-    ensures { result ≡ leb (start + side) limit }
-{
-    start as u64 + side as u64 <= limit as u64
-}
-
-// Whether a cut has no zero side and does not pass the frame.
-pub fn is_good_cut(left: u32, top: u32, width: u32, height: u32, frame: Size) -> bool
-    ensures { result ≡ is_good_cut left top width height frame }
-{
-    if width == 0 {
-        return false;
-    }
-    if height == 0 {
-        return false;
-    }
-    span_inside(left, width, frame.width) && span_inside(top, height, frame.height)
-}
-
-// An edit in five words.
-pub fn words_of(edit: Edit) -> [u32; 5]
-    ensures { result ≡ words_of edit }
-{
-    match edit {
-        Edit::Orient(orientation) => {
-            let number = crate::orientation::orientation_number(orientation);
-            [number, 0, 0, 0, 0]
-        }
-        Edit::Cut {
-            left,
-            top,
-            width,
-            height,
-        } => [0, left, top, width, height],
-    }
-}
-
-// The edit at an index of a row of words.
-fn edit_at(words: &[u32; 320], i: usize) -> Edit
-    requires { i < 64 }
-    ensures { result ≡ edit_at words.now i }
-{
-    let at = i * 5;
-    let kind = words[at];
-    let left = words[at + 1];
-    let top = words[at + 2];
-    let width = words[at + 3];
-    let height = words[at + 4];
-    match crate::orientation::orientation_of(kind) {
-        OptionalOrientation::Given(orientation) => Edit::Orient(orientation),
-        OptionalOrientation::Outside => Edit::Cut {
-            left,
-            top,
-            width,
-            height,
-        },
     }
 }
 
@@ -217,31 +177,14 @@ fn carried_by(
     }
 }
 
-// The point and frame that a walk ends with, of six numbers: center, area and frame, each across and then down.
-fn walk_end(listed: bool, number: u32, in_focus: InFocus, end: [u32; 6]) -> Carried
-    ensures { result ≡ walk_end listed number in_focus end }
-{
-    let center = Point {
-        x: end[0],
-        y: end[1],
-    };
-    let size = Size {
-        width: end[2],
-        height: end[3],
-    };
-    let frame = Size {
-        width: end[4],
-        height: end[5],
-    };
-    carried_by(listed, number, center, size, in_focus, frame)
-}
-
 // Carries a point and its frame through n edits, from the one at index i on: through that edit, and then, from where it leaves them,
-// through one less. Tells whether no cut dropped the point, and leaves the six numbers of `walk_end` in `end`. The call is the last thing
-// done, and what is carried is handed on in numbers and given back in a lent array: so the compiler makes a loop of it. A whole `Carried`
-// as parameter or result of `walk` would lie in memory at every edit, and the calls would stay open.
+// through one less; and leaves them in `end`. The call is the last thing done, and what is carried is handed on in its parts: so the
+// compiler makes a loop of it.
+// kept: tried a whole `Carried` in place of its parts, slower than the form before it: a list of 39 points behind 64 turns took 46 µs
+// in place of 7.
+#[tactic(auto, using(crate::proofs::Walked::walk_ends, crate::proofs::Walked::walk_goes_on))]
 fn walk(
-    words: &[u32; 320],
+    edits: &[Edit; MOST_EDITS],
     i: usize,
     n: usize,
     listed: bool,
@@ -250,70 +193,62 @@ fn walk(
     size: Size,
     in_focus: InFocus,
     frame: Size,
-    end: &mut [u32; 6],
-) -> bool
+    end: &mut Carried,
+)
     requires { i + n ≤ 64 }
-    ensures { walk_end result number in_focus end.new ≡ walked words.now i n (carried_by listed number center size in_focus frame) }
+    ensures { end.new ≡ walked edits.now i n (carried_by listed number center size in_focus frame) }
 {
+    let carried = carried_by(listed, number, center, size, in_focus, frame);
     let is_end = n == 0;
     if is_end {
-        *end = [
-            center.x,
-            center.y,
-            size.width,
-            size.height,
-            frame.width,
-            frame.height,
-        ];
-        return listed;
+        *end = carried;
+        return;
     }
-    let place = carried_by(listed, number, center, size, in_focus, frame);
-    let next = move_by(edit_at(words, i), place);
+    let next = carried.moved_by(edits[i]);
     let moved = next.point;
-    let center = moved.center;
-    let size = moved.size;
     let frame = next.frame;
     walk(
-        words,
+        edits,
         i + 1,
         n - 1,
         next.listed,
         number,
-        center,
-        size,
+        moved.center,
+        moved.size,
         in_focus,
         frame,
         end,
-    )
+    );
 }
 
-// How many of n edits the words hold.
+// How many of n edits there are places for.
 fn held(n: usize) -> usize
     ensures { result ≡ min n 64 }
 {
-    if 64 < n { 64 } else { n }
+    n.min(MOST_EDITS)
 }
 
-// The place of a point of the frame after the first n edits; after 64, which is all that the words hold, where there are to be more.
-pub fn place_after(frame: Size, point: FocusPoint, words: &[u32; 320], n: usize) -> Carried
-    ensures { result ≡ placed frame point words.now (min n 64) }
+// The place of a point of the frame after the first n edits; after all 64, where there are to be more.
+#[tactic(auto, using(crate::proofs::Walked::from_the_front), unfolding(crate::specs::Place::placed))]
+pub fn place_after(frame: Size, point: FocusPoint, edits: &[Edit; MOST_EDITS], n: usize) -> Carried
+    ensures { result ≡ placed frame point edits.now (min n 64) }
 {
-    let number = point.number;
-    let center = point.center;
-    let size = point.size;
-    let in_focus = point.in_focus;
-    let mut end = [0; 6];
-    let listed = walk(
-        words,
+    let mut end = Carried {
+        listed: true,
+        point,
+        frame,
+    };
+    walk(
+        edits,
         0,
         held(n),
         true,
-        number,
-        center,
-        size,
-        in_focus,
+        point.number,
+        point.center,
+        point.size,
+        point.in_focus,
         frame,
         &mut end,
     );
-    walk_end(listed, number, in_focus, end)
+    end
 }

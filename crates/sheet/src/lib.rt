@@ -1,163 +1,108 @@
 // The sheet: the points of one load, under edits that stand until they are taken back. A public method takes the sheet by value and
-// asks nothing of its caller; load, cut, orient and back give back the sheet that they leave, list and fit do not change it. A refused
-// call changes nothing.
+// asks nothing of its caller; load, cut, orient and back give back the sheet that they leave, or why they refuse; list and fit do not
+// change it. Refused, the caller's sheet is as it was.
 #![tactic(auto)]
 
 ghost use Rattle.std.specs.Prelude.{◌≡◌, ◌<◌, ◌≤◌};
 ghost use Rattle.placing.specs.Focus.{focus_of};
-ghost use Rattle.sheet.specs.Answer.{edit_means};
-ghost use Rattle.sheet.specs.Sheet.{edited_means, loaded_means, fresh_sheet, load_sheet, usable, add_edit, orient_sheet, cut_sheet, back_sheet};
-ghost use Rattle.sheet.specs.Inside.{present_of};
+ghost use Rattle.sheet.specs.Sheet.{edited_means, loaded_means, fresh_sheet, load_sheet, usable, load_on, add_edit, joined_by, orient_sheet, cut_sheet, back_sheet};
+ghost use Rattle.sheet.specs.Inside.{LoadedAt, Opens, present_of};
 
-use crate::edits::{Carried, Edit, EditAnswer};
-use crate::orientation::OptionalOrientation;
+use crate::edits::{Carried, Edit, EditRefusal, MOST_EDITS, Row};
+use crate::head::MOST_POINTS;
+use crate::orientation::Orientation;
 use placing::focus::FocusPoint;
-use placing::load::{FocusAnswer, FocusOrigin};
-use reading::focus::FocusAreaMode;
-use reading::geometry::{OptionalSize, Size};
+use placing::load::{FocusPoints, Refusal};
+use reading::geometry::{Rectangle, Size};
 
 pub mod edits; // an edit, and the place of one point after some edits
+pub mod head; // what list and fit answer beside the points
 pub mod list; // the listing of the points where they are now, and in another frame
-pub mod listing; // six numbers a point in a lent buffer, and what is said beside them
+pub mod listing; // six numbers a point in a lent buffer
 pub mod orientation; // one of the eight orientations, and a point under it
-mod subtraction; // subtraction that stops at 0
 
-// How many edits may stand.
-const MOST_EDITS: usize = 64;
-
-// The frame, points, primary, area mode and origin of a load, and the edits that stand, in their order. The first `count` of 39
-// places hold a point each, the first `standing` of 64 groups of five words an edit each. Nothing is loaded in a new sheet.
-#[derive(Clone, Copy)]
+// The points of a load, if there is one, and the edits that stand.
+#[derive(Clone, Copy, PartialEq, Eq, Debug)]
 pub struct Sheet {
-    pub loaded: bool,
-    pub frame: Size,
-    pub points: [FocusPoint; 39],
-    pub count: usize,
-    pub primary: usize,
-    pub area_mode: FocusAreaMode,
-    pub origin: FocusOrigin,
-    pub edits: [u32; 320],
-    pub standing: usize,
-}
-
-// A sheet after cut, orient or back.
-#[derive(Clone, Copy)]
-pub struct Edited {
-    pub answer: EditAnswer,
-    pub sheet: Sheet,
-}
-
-// A sheet after load.
-#[derive(Clone, Copy)]
-pub struct Loaded {
-    pub answer: FocusAnswer,
-    pub sheet: Sheet,
+    pub load: Option<FocusPoints>,
+    pub row: Row,
 }
 
 // The listed ones among some points, where the standing edits carry them: in 39 places, how many there are, and the primary's index
 // among them. And the primary's place, listed or not: its frame is the present one.
-#[derive(Clone, Copy)]
+#[derive(Clone, Copy, PartialEq, Eq, Debug)]
 struct Present {
-    primary_place: Carried,
-    points: [FocusPoint; 39],
+    primary: Carried,
+    points: [FocusPoint; MOST_POINTS],
     count: usize,
     index: usize,
 }
 
 impl Sheet {
     // A sheet with nothing loaded.
+    #[tactic(auto, unfolding(crate::specs::Sheet::fresh_sheet))]
     pub fn new() -> Sheet
         ensures { result ≡ fresh_sheet }
     {
-        let points = placing::load::no_places();
-        let edits = [0u32; 320];
         Sheet {
-            loaded: false,
-            frame: Size {
-                width: 0,
-                height: 0,
-            },
-            points,
-            count: 0,
-            primary: 0,
-            area_mode: FocusAreaMode::NoMode,
-            origin: FocusOrigin::Recorded,
-            edits,
-            standing: 0,
+            load: None,
+            row: Row::new(),
         }
     }
 
-    // The sheet of a load: refused, the sheet stays as it is; accepted, the load takes the place of sheet and edits.
+    // The sheet of a load, which takes the place of sheet and edits.
+    #[tactic(auto, using(crate::proofs::Loads::keeps, crate::proofs::Loads::replaces))]
     pub fn load(
         self,
         block: &[u8],
-        raw: OptionalSize,
-        picture: OptionalSize,
+        raw: Option<Size>,
+        picture: Option<Size>,
         model: &[u8],
-    ) -> Loaded
-        ensures { loaded_means result ≡ load_sheet self (focus_of block.now raw picture model.now) }
+    ) -> Result<Sheet, Refusal>
+        ensures { loaded_means self result ≡ load_sheet self (focus_of block.now raw picture model.now) }
     {
-        let focus = placing::nikon::focus(block, raw, picture, model);
-        let answer = focus.answer;
-        match answer {
-            FocusAnswer::Refused(why) => Loaded {
-                answer: FocusAnswer::Refused(why),
-                sheet: self,
-            },
-            FocusAnswer::Accepted => {
-                let frame = focus.frame;
-                let points = focus.points;
-                let area_mode = focus.area_mode;
-                let origin = focus.origin;
-                let edits = [0u32; 320];
-                let sheet = Sheet {
-                    loaded: true,
-                    frame,
-                    points,
-                    count: focus.count,
-                    primary: focus.primary,
-                    area_mode,
-                    origin,
-                    edits,
-                    standing: 0,
-                };
-                Loaded {
-                    answer: FocusAnswer::Accepted,
-                    sheet,
-                }
+        let focus = placing::nikon::focus(block, raw, picture, model)?;
+        Ok(Sheet {
+            load: Some(focus),
+            row: Row::new(),
+        })
+    }
+
+    // The load, if its counts and that of the edits lie within their places, and its primary is one of its points.
+    #[tactic(auto, unfolding(crate::specs::Sheet::usable, crate::specs::Sheet::focus_in))]
+    fn usable_load(&self) -> Option<&FocusPoints>
+        ensures { LoadedAt self.now result }
+    {
+        match &self.load {
+            Some(load) => {
+                let is_usable = load.count <= MOST_POINTS
+                    && load.primary < load.count
+                    && self.row.count <= MOST_EDITS;
+                if is_usable { Some(load) } else { None }
             }
+            None => None,
         }
     }
 
-    // Whether the sheet is loaded, its counts lie within its places, and its primary is one of its points.
-    #[tactic(auto, unfolding(crate::specs::Sheet::usable))]
+    // Whether the sheet has a load, and that is usable.
     pub fn is_usable(self) -> bool
         ensures { result ≡ usable self }
     {
-        if !self.loaded {
-            return false;
-        }
-        if 39 < self.count {
-            return false;
-        }
-        if self.count <= self.primary {
-            return false;
-        }
-        self.standing <= MOST_EDITS
+        self.usable_load().is_some()
     }
 
-    // What is listed of the points from index `from` up to `to`, the primary among them. This is the one place that takes points through
-    // the edits, so that the compiler draws the walk into this loop.
-    fn present(self, from: usize, to: usize) -> Present
-        requires { (from ≤ self.primary) × (self.primary < to) × (to ≤ 39) × (self.standing ≤ 64) }
-        ensures { result ≡ present_of self from to }
+    // What is listed of the load's points from index `from` up to `to`, the primary among them. This is the one place that takes points
+    // through the edits, so that the compiler draws the walk into this loop.
+    fn present(&self, load: &FocusPoints, from: usize, to: usize) -> Present
+        requires { (load.now ≡ load_on self.now) × (from ≤ load.now.primary) × (load.now.primary < to) × (to ≤ 39) × (self.now.row.count ≤ 64) }
+        ensures { result ≡ present_of self.now from to }
     {
-        let frame = self.frame;
-        let standing = self.standing;
-        let at = self.primary;
+        let frame = load.frame;
+        let standing = self.row.count;
+        let at = load.primary;
         // as the load has it, until its own walk is seen
-        let unmoved = self.points[at];
-        let mut primary_place = Carried {
+        let unmoved = load.points[at];
+        let mut primary = Carried {
             listed: true,
             point: unmoved,
             frame,
@@ -165,119 +110,107 @@ impl Sheet {
         let mut points = placing::load::no_places();
         let mut count: usize = 0;
         let mut index: usize = 0;
-        let mut i = from;
-        while i < to {
-            let p = self.points[i];
-            let place = crate::edits::place_after(frame, p, &self.edits, standing);
+        for i in from..to {
+            let p = load.points[i];
+            let carried = crate::edits::place_after(frame, p, &self.row.edits, standing);
             if i == at {
-                primary_place = place;
+                primary = carried;
                 index = count;
             }
-            if place.listed {
-                let q = place.point;
-                points[count] = q;
+            if carried.listed {
+                points[count] = carried.point;
                 count += 1;
             }
-            i += 1;
         }
         Present {
-            primary_place,
+            primary,
             points,
             count,
             index,
         }
     }
 
-    // The sheet with one more edit.
-    fn with_edit(self, edit: Edit) -> Sheet
-        requires { self.standing < 64 }
-        ensures { result ≡ add_edit self edit }
+    // What orient and cut test first: the sheet is loaded, and one more edit may stand. Then this is the load.
+    #[tactic(auto, unfolding(crate::specs::Sheet::if_open))]
+    fn open(&self) -> Result<&FocusPoints, EditRefusal>
+        ensures { Opens self.now result }
     {
-        let words = crate::edits::words_of(edit);
-        let n = self.standing;
-        let at = n * 5;
-        let mut next = self;
-        next.edits[at] = words[0];
-        next.edits[at + 1] = words[1];
-        next.edits[at + 2] = words[2];
-        next.edits[at + 3] = words[3];
-        next.edits[at + 4] = words[4];
-        next.standing = n + 1;
-        next
+        let load = self.usable_load().ok_or(EditRefusal::Empty)?;
+        if MOST_EDITS <= self.row.count {
+            return Err(EditRefusal::Full);
+        }
+        Ok(load)
     }
 
-    // The sheet as it is, after a call that ends so.
-    fn ends(self, answer: EditAnswer) -> Edited
-        ensures { edited_means result ≡ (edit_means answer, self) }
+    // The sheet with one more edit.
+    #[tactic(auto, unfolding(crate::specs::Sheet::add_edit))]
+    fn with_edit(self, edit: Edit) -> Sheet
+        requires { self.row.count < 64 }
+        ensures { result ≡ add_edit self edit }
     {
-        Edited {
-            answer,
-            sheet: self,
+        Sheet {
+            row: self.row.joined_by(edit),
+            ..self
         }
     }
 
     // The sheet under the orientation of a number.
-    pub fn orient(self, number: u32) -> Edited
-        ensures { edited_means result ≡ orient_sheet self number }
+    #[tactic(auto, using(crate::proofs::Usable::when_open), unfolding(crate::specs::Sheet::orient_sheet))]
+    pub fn orient(self, number: u32) -> Result<Sheet, EditRefusal>
+        ensures { edited_means self result ≡ orient_sheet self number }
     {
-        if !self.is_usable() {
-            return self.ends(EditAnswer::Empty);
-        }
-        if MOST_EDITS <= self.standing {
-            return self.ends(EditAnswer::Full);
-        }
-        match crate::orientation::orientation_of(number) {
-            OptionalOrientation::Given(orientation) => {
-                let sheet = self.with_edit(Edit::Orient(orientation));
-                sheet.ends(EditAnswer::Accepted)
-            }
-            OptionalOrientation::Outside => self.ends(EditAnswer::NoOrientation),
-        }
+        self.open()?;
+        let orientation = Orientation::try_from(number)?;
+        Ok(self.with_edit(Edit::Orient(orientation)))
     }
 
     // The sheet cut to a rectangle of the present frame.
-    pub fn cut(self, left: u32, top: u32, width: u32, height: u32) -> Edited
-        ensures { edited_means result ≡ cut_sheet self left top width height }
+    #[tactic(auto, using(crate::proofs::Usable::when_open, crate::proofs::Usable::usable_told, crate::proofs::Presented::primary_of_lem, crate::proofs::Presented::frame_of), unfolding(crate::specs::Sheet::cut_sheet, crate::specs::Sheet::keeps_primary, crate::specs::Place::moved))]
+    pub fn cut(self, to: Rectangle) -> Result<Sheet, EditRefusal>
+        ensures { edited_means self result ≡ cut_sheet self to.left to.top to.width to.height }
     {
-        if !self.is_usable() {
-            return self.ends(EditAnswer::Empty);
+        let load = self.open()?;
+        let at = load.primary;
+        let primary = self.present(load, at, at + 1).primary;
+        let frame = primary.frame;
+        if !to.lies_in(frame) {
+            return Err(EditRefusal::BadCut);
         }
-        if MOST_EDITS <= self.standing {
-            return self.ends(EditAnswer::Full);
+        if !primary.cut_to(to).listed {
+            return Err(EditRefusal::DropsPrimary);
         }
-        let at = self.primary;
-        let present = self.present(at, at + 1);
-        let place = present.primary_place;
-        let frame = place.frame;
-        if !crate::edits::is_good_cut(left, top, width, height, frame) {
-            return self.ends(EditAnswer::BadCut);
-        }
-        let after = crate::edits::cut_point(left, top, width, height, place);
-        if !after.listed {
-            return self.ends(EditAnswer::DropsPrimary);
-        }
-        let sheet = self.with_edit(Edit::Cut {
-            left,
-            top,
-            width,
-            height,
-        });
-        sheet.ends(EditAnswer::Accepted)
+        Ok(self.with_edit(Edit::Cut(to)))
     }
 
-    // The sheet without its last edit. The words of that edit stay behind the standing ones and are read no more.
-    pub fn back(self) -> Edited
-        ensures { edited_means result ≡ back_sheet self }
+    // The sheet without its last edit, which stays behind the standing ones and is read no more.
+    #[tactic(auto, unfolding(crate::specs::Sheet::back_sheet))]
+    pub fn back(self) -> Result<Sheet, EditRefusal>
+        ensures { edited_means self result ≡ back_sheet self }
     {
         if !self.is_usable() {
-            return self.ends(EditAnswer::Empty);
+            return Err(EditRefusal::Empty);
         }
-        let n = self.standing;
-        if n == 0 {
-            return self.ends(EditAnswer::NothingStands);
-        }
-        let mut sheet = self;
-        sheet.standing = n - 1;
-        sheet.ends(EditAnswer::Accepted)
+        let count = self
+            .row
+            .count
+            .checked_sub(1)
+            .ok_or(EditRefusal::NothingStands)?;
+        Ok(Sheet {
+            row: Row { count, ..self.row },
+            ..self
+        })
+    }
+}
+
+impl Row {
+    // The row with one more edit behind those that stand.
+    fn joined_by(self, edit: Edit) -> Row
+        requires { self.count < 64 }
+        ensures { result ≡ joined_by self edit }
+    {
+        let mut row = self;
+        row.edits[self.count] = edit;
+        row.count += 1;
+        row
     }
 }

@@ -1,15 +1,15 @@
 // One of the eight orientations that a camera writes, and a point with its frame under it.
 ghost use Rattle.std.specs.Prelude.{◌≡◌, ◌-◌};
-ghost use Rattle.sheet.specs.Orientation.{orientation_number, orientation_means, orientation_of, framed, oriented_by};
+ghost use Rattle.placing.specs.Fit.{swapped};
+ghost use Rattle.sheet.specs.Orientation.{orientation_number, StandsFor, oriented_by};
 ghost use Rattle.sheet.specs.Inside.{placed_upright, placed_across};
 
-use crate::subtraction::less;
-use placing::focus::FocusPoint;
+use placing::focus::{FocusPoint, Framed};
 use reading::geometry::{Point, Size};
 
 // How a picture is brought upright, by Exif's numbers 1 to 8 in this order. Rotations are clockwise; a transposed picture is mirrored
 // at the diagonal from its top left corner, a transverse one at the other diagonal.
-#[derive(Clone, Copy)]
+#[derive(Clone, Copy, PartialEq, Eq, Debug)]
 pub enum Orientation {
     Normal,
     FlipHorizontal,
@@ -21,50 +21,46 @@ pub enum Orientation {
     Rotate270,
 }
 
-// The orientation that a number stands for; none where the number is outside 1 to 8, 02's number 15.
-#[derive(Clone, Copy)]
-pub enum OptionalOrientation {
-    Outside,
-    Given(Orientation),
-}
+// A number outside 1 to 8, 02's number 15.
+#[derive(Clone, Copy, PartialEq, Eq, Debug)]
+pub struct UnknownOrientation(pub u32);
 
-// A point, and the frame that it is in.
-#[derive(Clone, Copy)]
-pub struct Framed {
-    pub point: FocusPoint,
-    pub frame: Size,
-}
+impl From<Orientation> for u32 {
+    ghost from_gives = { λ orientation number. number ≡ orientation_number orientation };
 
-// An orientation's number.
-pub fn orientation_number(orientation: Orientation) -> u32
-    ensures { result ≡ orientation_number orientation }
-{
-    match orientation {
-        Orientation::Normal => 1,
-        Orientation::FlipHorizontal => 2,
-        Orientation::Rotate180 => 3,
-        Orientation::FlipVertical => 4,
-        Orientation::Transpose => 5,
-        Orientation::Rotate90 => 6,
-        Orientation::Transverse => 7,
-        Orientation::Rotate270 => 8,
+    #[tactic(auto, unfolding(crate::specs::Orientation::orientation_number))]
+    fn from(orientation: Orientation) -> u32 {
+        match orientation {
+            Orientation::Normal => 1,
+            Orientation::FlipHorizontal => 2,
+            Orientation::Rotate180 => 3,
+            Orientation::FlipVertical => 4,
+            Orientation::Transpose => 5,
+            Orientation::Rotate90 => 6,
+            Orientation::Transverse => 7,
+            Orientation::Rotate270 => 8,
+        }
     }
 }
 
-// The orientation of a number.
-pub fn orientation_of(number: u32) -> OptionalOrientation
-    ensures { orientation_means result ≡ orientation_of number }
-{
-    match number {
-        1 => OptionalOrientation::Given(Orientation::Normal),
-        2 => OptionalOrientation::Given(Orientation::FlipHorizontal),
-        3 => OptionalOrientation::Given(Orientation::Rotate180),
-        4 => OptionalOrientation::Given(Orientation::FlipVertical),
-        5 => OptionalOrientation::Given(Orientation::Transpose),
-        6 => OptionalOrientation::Given(Orientation::Rotate90),
-        7 => OptionalOrientation::Given(Orientation::Transverse),
-        8 => OptionalOrientation::Given(Orientation::Rotate270),
-        _ => OptionalOrientation::Outside,
+impl TryFrom<u32> for Orientation {
+    type Error = UnknownOrientation;
+
+    ghost try_from_gives = { StandsFor };
+
+    #[tactic(auto, unfolding(crate::specs::Orientation::orientation_of))]
+    fn try_from(number: u32) -> Result<Self, UnknownOrientation> {
+        match number {
+            1 => Ok(Orientation::Normal),
+            2 => Ok(Orientation::FlipHorizontal),
+            3 => Ok(Orientation::Rotate180),
+            4 => Ok(Orientation::FlipVertical),
+            5 => Ok(Orientation::Transpose),
+            6 => Ok(Orientation::Rotate90),
+            7 => Ok(Orientation::Transverse),
+            8 => Ok(Orientation::Rotate270),
+            _ => Err(UnknownOrientation(number)),
+        }
     }
 }
 
@@ -72,69 +68,72 @@ pub fn orientation_of(number: u32) -> OptionalOrientation
 fn within(side: u32, at: u32) -> u32
     ensures { result ≡ side - (side - at) }
 {
-    if at <= side { at } else { side }
+    at.min(side)
+}
+
+// A size with its sides exchanged.
+fn swapped(size: Size) -> Size
+    ensures { result ≡ swapped size }
+{
+    Size {
+        width: size.height,
+        height: size.width,
+    }
 }
 
 // A point moved to (x, y) in its frame.
-fn placed_upright(x: u32, y: u32, frame: Size, point: FocusPoint) -> Framed
-    ensures { result ≡ placed_upright x y (framed frame point) }
+fn placed_upright(place: Framed, x: u32, y: u32) -> Framed
+    ensures { result ≡ placed_upright x y place }
 {
-    let size = point.size;
-    let in_focus = point.in_focus;
-    let moved = FocusPoint {
-        number: point.number,
-        center: Point { x, y },
-        size,
-        in_focus,
-    };
     Framed {
-        point: moved,
-        frame,
+        point: FocusPoint {
+            center: Point { x, y },
+            ..place.point
+        },
+        ..place
     }
 }
 
 // A point moved to (x, y), the sides of its frame and of its area exchanged.
-fn placed_across(x: u32, y: u32, frame: Size, point: FocusPoint) -> Framed
-    ensures { result ≡ placed_across x y (framed frame point) }
+fn placed_across(place: Framed, x: u32, y: u32) -> Framed
+    ensures { result ≡ placed_across x y place }
 {
-    let area = point.size;
-    let in_focus = point.in_focus;
-    let moved = FocusPoint {
-        number: point.number,
-        center: Point { x, y },
-        size: Size {
-            width: area.height,
-            height: area.width,
-        },
-        in_focus,
-    };
-    let across = Size {
-        width: frame.height,
-        height: frame.width,
-    };
     Framed {
-        point: moved,
-        frame: across,
+        point: FocusPoint {
+            center: Point { x, y },
+            size: swapped(place.point.size),
+            ..place.point
+        },
+        frame: swapped(place.frame),
     }
 }
 
-// A point and its frame under an orientation, in one step.
-pub fn oriented(orientation: Orientation, frame: Size, point: FocusPoint) -> Framed
-    ensures { result ≡ oriented_by orientation (framed frame point) }
-{
-    let center = point.center;
-    let x = center.x;
-    let y = center.y;
-    let w = frame.width;
-    let h = frame.height;
-    match orientation {
-        Orientation::Normal => Framed { point, frame },
-        Orientation::FlipHorizontal => placed_upright(less(w, x), y, frame, point),
-        Orientation::Rotate180 => placed_upright(less(w, x), less(h, y), frame, point),
-        Orientation::FlipVertical => placed_upright(within(w, x), less(h, y), frame, point),
-        Orientation::Transpose => placed_across(within(h, y), within(w, x), frame, point),
-        Orientation::Rotate90 => placed_across(less(h, y), x, frame, point),
-        Orientation::Transverse => placed_across(less(h, y), less(w, x), frame, point),
-        Orientation::Rotate270 => placed_across(within(h, y), less(w, x), frame, point),
+impl Orientation {
+    // A point and its frame under the orientation, in one step.
+    #[tactic(auto, unfolding(crate::specs::Orientation::turned_by, crate::specs::Orientation::steps_of, crate::specs::Orientation::oriented_by))]
+    pub fn apply(self, place: Framed) -> Framed
+        ensures { result ≡ oriented_by self place }
+    {
+        let Point { x, y } = place.point.center;
+        let Size {
+            width: w,
+            height: h,
+        } = place.frame;
+        match self {
+            Orientation::Normal => place,
+            Orientation::FlipHorizontal => placed_upright(place, w.saturating_sub(x), y),
+            Orientation::Rotate180 => {
+                placed_upright(place, w.saturating_sub(x), h.saturating_sub(y))
+            }
+            Orientation::FlipVertical => {
+                placed_upright(place, within(w, x), h.saturating_sub(y))
+            }
+            Orientation::Transpose => placed_across(place, within(h, y), within(w, x)),
+            Orientation::Rotate90 => placed_across(place, h.saturating_sub(y), x),
+            Orientation::Transverse => {
+                placed_across(place, h.saturating_sub(y), w.saturating_sub(x))
+            }
+            Orientation::Rotate270 => placed_across(place, within(h, y), w.saturating_sub(x)),
+        }
     }
 }

@@ -1,46 +1,34 @@
 -- 02, 2026-03 "Named stands": what the calls of a workspace answer and leave, for every workspace. What the sheet answers to its own
 -- calls is in sheet, specs/Sheet.antt and Lists.antt.
-use Rattle.std.specs.Prelude.{ℕ, suc, ◌+◌, Bool, ◌&&◌, cond, List, [], ◌∷◌, leb, ltb, get_or, length, replicate, set, take}
+use Rattle.std.specs.Prelude.{ℕ, suc, ◌+◌, Bool, ◌&&◌, cond, List, [], ◌∷◌, leb, ltb, get_or, length, replicate, set, take, Result}
 use Rattle.reading.specs.Outcome.{Outcome, refused, accepted}
 use Rattle.reading.specs.declared.geometry.Size.{Size}
 use Rattle.placing.specs.Load.{Focus}
-use Rattle.placing.specs.Laid.{load_means}
 use Rattle.sheet.specs.declared.Sheet.{Sheet}
-use Rattle.sheet.specs.Answer.{edit_means}
-use Rattle.sheet.specs.Sheet.{leaves, kept_by, fresh_sheet, loaded_sheet, usable, with_edits}
+use Rattle.sheet.specs.Sheet.{leaves, kept_by, ends, fresh_sheet, no_edits, loaded_sheet, usable, with_row}
 use Rattle.sheet.specs.Lists.{list_outcome, list_buffer, fit_outcome, fit_buffer}
 use Rattle.workspace.specs.declared.Checkpoint.{Checkpoint}
 use Rattle.workspace.specs.declared.Workspace.{Workspace}
-use Rattle.workspace.specs.declared.CheckpointAnswer.{CheckpointAnswer}
-use Rattle.workspace.specs.declared.CheckpointAnswer.TheVariants.{Accepted, Empty, BadName, NinthName, NoSuchName}
-use Rattle.workspace.specs.declared.Checkpointed.{Checkpointed}
-use Rattle.workspace.specs.declared.EditedWorkspace.{EditedWorkspace}
-use Rattle.workspace.specs.declared.LoadedWorkspace.{LoadedWorkspace}
+use Rattle.workspace.specs.declared.CheckpointRefusal.{CheckpointRefusal}
+use Rattle.workspace.specs.declared.CheckpointRefusal.TheVariants.{Empty, BadName, NinthName, NoSuchName}
 use Rattle.workspace.specs.Names.{is_bad_name, in_places, holds_name}
 
 -- ---- what the code's values mean
--- of keep and return: accepted, with no numbers to give, or refused by the documents' number
-abbrev pub checkpoint_means : CheckpointAnswer → Outcome (List ℕ)
-checkpoint_means Accepted = accepted []
-checkpoint_means Empty = refused 7
-checkpoint_means BadName = refused 16
-checkpoint_means NinthName = refused 17
-checkpoint_means NoSuchName = refused 18
+-- the documents' number for each way in which keep and return are refused
+abbrev pub checkpoint_refusal_number : CheckpointRefusal → ℕ
+checkpoint_refusal_number Empty = 7
+checkpoint_refusal_number BadName = 16
+checkpoint_refusal_number NinthName = 17
+checkpoint_refusal_number NoSuchName = 18
 
--- that of the answer, and the workspace
-abbrev pub checkpointed_means : Checkpointed → Outcome (List ℕ) × Workspace
-checkpointed_means r = (checkpoint_means r.answer, r.workspace)
-
-abbrev pub edited_workspace_means : EditedWorkspace → Outcome (List ℕ) × Workspace
-edited_workspace_means r = (edit_means r.answer, r.workspace)
-
-abbrev pub loaded_workspace_means : LoadedWorkspace → Outcome (List ℕ) × Workspace
-loaded_workspace_means r = (load_means r.answer, r.workspace)
+-- the result of keep or return on w
+abbrev pub checkpointed_means : {A : Type 0} → A → Result A CheckpointRefusal → Outcome (List ℕ) × A
+checkpointed_means w r = ends checkpoint_refusal_number w r
 
 -- ---- the sheet's calls
 -- what stands in a place without a checkpoint
 unfoldable pub blank_checkpoint : Checkpoint
-blank_checkpoint = record { name = replicate 16 0; len = 0; edits = replicate 320 0; standing = 0 }
+blank_checkpoint = record { name = replicate 16 0; len = 0; row = no_edits }
 
 -- a sheet, and no checkpoints
 unfoldable pub without_names : Sheet → Workspace
@@ -98,7 +86,7 @@ place_of w name = place_among name (take w.count w.checkpoints)
 
 -- the standing edits under a name
 unfoldable pub checkpoint_of : Sheet → List ℕ → Checkpoint
-checkpoint_of s name = record { name = in_places name; len = length name; edits = s.edits; standing = s.standing }
+checkpoint_of s name = record { name = in_places name; len = length name; row = s.row }
 
 -- the standing edits kept at a place: "a name kept again is replaced", a new one takes the next place
 unfoldable pub keep_at : Workspace → List ℕ → ℕ → Workspace
@@ -117,13 +105,12 @@ keep_in w name =
 
 -- what the checker reads past the places' end
 abbrev pub no_checkpoint : Checkpoint
-no_checkpoint = record { name = []; len = 0; edits = []; standing = 0 }
+no_checkpoint = record { name = []; len = 0; row = record { edits = []; count = 0 } }
 
 -- the edits kept at a place are the standing ones. By hand, where they are more than 64, the sheet is not usable then
 unfoldable pub return_at : Workspace → ℕ → Workspace
 return_at w at =
-    let p = get_or w.checkpoints at no_checkpoint in
-    with_sheet w (with_edits w.sheet p.edits p.standing)
+    with_sheet w (with_row w.sheet (get_or w.checkpoints at no_checkpoint).row)
 
 -- "Coming back makes the kept edits the standing ones": 7, 16, then 18 "no such name"
 unfoldable pub return_in : Workspace → List ℕ → Outcome (List ℕ) × Workspace

@@ -1,118 +1,93 @@
 // A workspace: a sheet with its checkpoints. A checkpoint (02: named stand) keeps the edits that stood under a name of 1 to 16 bytes, and
 // there are at most eight. A public method takes the workspace by value and asks nothing of its caller; list and fit do not change it,
-// the others give back the workspace that they leave. A refused call changes nothing.
+// the others give back the workspace that they leave, or why they refuse. Refused, the caller's workspace is as it was.
 #![tactic(auto)]
 
-ghost use Rattle.std.specs.Prelude.{◌≡◌, ◌<◌, ◌≤◌, length, replicate};
-ghost use Rattle.reading.specs.Outcome.{number_of};
+ghost use Rattle.std.specs.Prelude.{◌≡◌, ◌<◌, ◌≤◌, length, replicate, take};
+ghost use Rattle.std.specs.List.{position};
 ghost use Rattle.placing.specs.Focus.{focus_of};
-ghost use Rattle.sheet.specs.Sheet.{edited_means, orient_sheet, cut_sheet, back_sheet};
+ghost use Rattle.sheet.specs.Sheet.{edited_means, loaded_means, orient_sheet, cut_sheet, back_sheet};
 ghost use Rattle.sheet.specs.Listing.{list_means};
-ghost use Rattle.workspace.specs.Names.{in_places};
-ghost use Rattle.workspace.specs.Workspace.{checkpoint_means, checkpointed_means, edited_workspace_means, loaded_workspace_means, blank_checkpoint, without_names, fresh_workspace, load_in, with_sheet, is_counted, usable_in, edit_in, list_outcome_in, list_buffer_in, fit_outcome_in, fit_buffer_in, place_of, keep_at, keep_in, return_at, return_in};
+ghost use Rattle.workspace.specs.Names.{in_places, holds_name};
+ghost use Rattle.workspace.specs.Inside.{Named};
+ghost use Rattle.workspace.specs.Workspace.{checkpoint_refusal_number, checkpointed_means, blank_checkpoint, without_names, fresh_workspace, load_in, with_sheet, is_counted, usable_in, edit_in, list_outcome_in, list_buffer_in, fit_outcome_in, fit_buffer_in, keep_at, keep_in, return_at, return_in};
 
-use placing::load::FocusAnswer;
-use reading::geometry::{OptionalSize, Size};
-use sheet::edits::EditAnswer;
-use sheet::listing::ListAnswer;
-use sheet::{Edited, Sheet};
+use crate::names::LONGEST_NAME;
+use placing::load::Refusal;
+use reading::geometry::{Rectangle, Size};
+use sheet::Sheet;
+use sheet::edits::{EditRefusal, Row};
+use sheet::head::ListHead;
+use sheet::listing::ListRefusal;
 
 mod names; // names of 1 to 16 bytes
 
 // How many checkpoints there may be.
 const MOST_CHECKPOINTS: usize = 8;
 
-// The first `len` of 16 places hold the name, the first `standing` of 64 groups of five words an edit each.
-#[derive(Clone, Copy)]
+// Edits that stood, and their name, in the first `len` of 16 places.
+// kept: a length beside an array, since a checkpoint is handed over by value in fixed memory, without a heap.
+#[derive(Clone, Copy, PartialEq, Eq, Debug)]
 pub struct Checkpoint {
-    pub name: [u8; 16],
+    pub name: [u8; LONGEST_NAME],
     pub len: usize,
-    pub edits: [u32; 320],
-    pub standing: usize,
+    pub row: Row,
 }
 
 // A sheet, and checkpoints in the first `count` of eight places.
-#[derive(Clone, Copy)]
+#[derive(Clone, Copy, PartialEq, Eq, Debug)]
 pub struct Workspace {
     pub sheet: Sheet,
-    pub checkpoints: [Checkpoint; 8],
+    pub checkpoints: [Checkpoint; MOST_CHECKPOINTS],
     pub count: usize,
 }
 
-// How keep and return end.
-#[derive(Clone, Copy)]
-pub enum CheckpointAnswer {
-    Accepted,
+// Why keep and return refuse: 01's number 7 and 02's 16 to 18, in this order.
+#[derive(Clone, Copy, PartialEq, Eq, Debug)]
+pub enum CheckpointRefusal {
     Empty,
     BadName,
     NinthName,
     NoSuchName,
 }
 
-// A workspace after keep or return.
-#[derive(Clone, Copy)]
-pub struct Checkpointed {
-    pub answer: CheckpointAnswer,
-    pub workspace: Workspace,
-}
+impl From<CheckpointRefusal> for u32 {
+    ghost from_gives = { λ why number. number ≡ checkpoint_refusal_number why };
 
-// A workspace after cut, orient or back.
-#[derive(Clone, Copy)]
-pub struct EditedWorkspace {
-    pub answer: EditAnswer,
-    pub workspace: Workspace,
-}
-
-// A workspace after load.
-#[derive(Clone, Copy)]
-pub struct LoadedWorkspace {
-    pub answer: FocusAnswer,
-    pub workspace: Workspace,
-}
-
-// 02's number of a refusal, and 0 for an accepted call.
-pub fn checkpoint_number(answer: CheckpointAnswer) -> u32
-    ensures { result ≡ number_of (checkpoint_means answer) }
-{
-    match answer {
-        CheckpointAnswer::Accepted => 0,
-        CheckpointAnswer::Empty => 7,
-        CheckpointAnswer::BadName => 16,
-        CheckpointAnswer::NinthName => 17,
-        CheckpointAnswer::NoSuchName => 18,
+    fn from(why: CheckpointRefusal) -> u32 {
+        match why {
+            CheckpointRefusal::Empty => 7,
+            CheckpointRefusal::BadName => 16,
+            CheckpointRefusal::NinthName => 17,
+            CheckpointRefusal::NoSuchName => 18,
+        }
     }
 }
 
 // A name in 16 places, with zeros behind it.
-fn in_places(name: &[u8]) -> [u8; 16]
+fn in_places(name: &[u8]) -> [u8; LONGEST_NAME]
     requires { length name.now ≤ 16 }
     ensures { result ≡ in_places name.now }
 {
-    let mut places = [0u8; 16];
-    let mut i: usize = 0;
-    while i < name.len() {
-        places[i] = name[i];
-        i += 1;
-    }
+    let mut places = [0u8; LONGEST_NAME];
+    places[..name.len()].copy_from_slice(name);
     places
 }
 
 // Eight places with no checkpoint in them.
-fn no_checkpoints() -> [Checkpoint; 8]
+#[tactic(auto, unfolding(crate::specs::Workspace::blank_checkpoint))]
+fn no_checkpoints() -> [Checkpoint; MOST_CHECKPOINTS]
     ensures { result ≡ replicate 8 blank_checkpoint }
 {
-    let name = [0u8; 16];
-    let edits = [0u32; 320];
-    let p = Checkpoint {
-        name,
+    [Checkpoint {
+        name: [0; LONGEST_NAME],
         len: 0,
-        edits,
-        standing: 0,
-    };
-    [p; 8]
+        row: Row::new(),
+    }; MOST_CHECKPOINTS]
 }
 
 // A sheet, and no checkpoints.
+#[tactic(auto, unfolding(crate::specs::Workspace::without_names))]
 fn without_names(sheet: Sheet) -> Workspace
     ensures { result ≡ without_names sheet }
 {
@@ -132,33 +107,18 @@ impl Workspace {
         without_names(Sheet::new())
     }
 
-    // The sheet's load: refused, everything stays as it is; accepted, all names go.
+    // The sheet's load; all names go.
     pub fn load(
         self,
         block: &[u8],
-        raw: OptionalSize,
-        picture: OptionalSize,
+        raw: Option<Size>,
+        picture: Option<Size>,
         model: &[u8],
-    ) -> LoadedWorkspace
-        ensures { loaded_workspace_means result ≡ load_in self (focus_of block.now raw picture model.now) }
+    ) -> Result<Workspace, Refusal>
+        ensures { loaded_means self result ≡ load_in self (focus_of block.now raw picture model.now) }
     {
-        let old = self.sheet;
-        let loaded = old.load(block, raw, picture, model);
-        let answer = loaded.answer;
-        match answer {
-            FocusAnswer::Refused(why) => LoadedWorkspace {
-                answer: FocusAnswer::Refused(why),
-                workspace: self,
-            },
-            FocusAnswer::Accepted => {
-                let sheet = loaded.sheet;
-                let workspace = without_names(sheet);
-                LoadedWorkspace {
-                    answer: FocusAnswer::Accepted,
-                    workspace,
-                }
-            }
-        }
+        let sheet = self.sheet.load(block, raw, picture, model)?;
+        Ok(without_names(sheet))
     }
 
     // Whether the count lies within the places.
@@ -172,182 +132,138 @@ impl Workspace {
     fn with_sheet(self, sheet: Sheet) -> Workspace
         ensures { result ≡ with_sheet self sheet }
     {
-        let mut next = self;
-        next.sheet = sheet;
-        next
+        Workspace { sheet, ..self }
     }
 
     // What an edit of the sheet, or back, leaves.
-    fn with_edited(self, r: Edited) -> EditedWorkspace
-        ensures { edited_workspace_means result ≡ edit_in self (edited_means r) }
+    #[tactic(auto, unfolding(crate::specs::Workspace::edit_in))]
+    fn with_edited(self, edited: Result<Sheet, EditRefusal>) -> Result<Workspace, EditRefusal>
+        ensures { edited_means self result ≡ edit_in self (edited_means self.sheet edited) }
     {
         if !self.is_counted() {
-            return EditedWorkspace {
-                answer: EditAnswer::Empty,
-                workspace: self,
-            };
+            return Err(EditRefusal::Empty);
         }
-        let answer = r.answer;
-        let sheet = r.sheet;
-        let workspace = self.with_sheet(sheet);
-        EditedWorkspace { answer, workspace }
+        Ok(self.with_sheet(edited?))
     }
 
     // The sheet's orient, cut and back.
-    pub fn orient(self, number: u32) -> EditedWorkspace
-        ensures { edited_workspace_means result ≡ edit_in self (orient_sheet self.sheet number) }
+    pub fn orient(self, number: u32) -> Result<Workspace, EditRefusal>
+        ensures { edited_means self result ≡ edit_in self (orient_sheet self.sheet number) }
     {
-        let sheet = self.sheet;
-        let r = sheet.orient(number);
-        self.with_edited(r)
+        self.with_edited(self.sheet.orient(number))
     }
 
-    pub fn cut(self, left: u32, top: u32, width: u32, height: u32) -> EditedWorkspace
-        ensures { edited_workspace_means result ≡ edit_in self (cut_sheet self.sheet left top width height) }
+    pub fn cut(self, to: Rectangle) -> Result<Workspace, EditRefusal>
+        ensures { edited_means self result ≡ edit_in self (cut_sheet self.sheet to.left to.top to.width to.height) }
     {
-        let sheet = self.sheet;
-        let r = sheet.cut(left, top, width, height);
-        self.with_edited(r)
+        self.with_edited(self.sheet.cut(to))
     }
 
-    pub fn back(self) -> EditedWorkspace
-        ensures { edited_workspace_means result ≡ edit_in self (back_sheet self.sheet) }
+    pub fn back(self) -> Result<Workspace, EditRefusal>
+        ensures { edited_means self result ≡ edit_in self (back_sheet self.sheet) }
     {
-        let sheet = self.sheet;
-        let r = sheet.back();
-        self.with_edited(r)
+        self.with_edited(self.sheet.back())
     }
 
     // The sheet's list and fit.
-    pub fn list(self, out: &mut [u32]) -> ListAnswer
+    #[tactic(auto, unfolding(crate::specs::Workspace::list_outcome_in, crate::specs::Workspace::list_buffer_in))]
+    pub fn list(self, out: &mut [u32]) -> Result<ListHead, ListRefusal>
         ensures { (list_means result ≡ list_outcome_in self (length out.old)) × (out.new ≡ list_buffer_in self out.old) }
     {
         if !self.is_counted() {
-            return ListAnswer::Empty;
+            return Err(ListRefusal::Empty);
         }
-        let sheet = self.sheet;
-        sheet.list(out)
+        self.sheet.list(out)
     }
 
-    pub fn fit(self, size: Size, out: &mut [u32]) -> ListAnswer
+    #[tactic(auto, unfolding(crate::specs::Workspace::fit_outcome_in, crate::specs::Workspace::fit_buffer_in))]
+    pub fn fit(self, size: Size, out: &mut [u32]) -> Result<ListHead, ListRefusal>
         ensures { (list_means result ≡ fit_outcome_in self size (length out.old)) × (out.new ≡ fit_buffer_in self size out.old) }
     {
         if !self.is_counted() {
-            return ListAnswer::Empty;
+            return Err(ListRefusal::Empty);
         }
-        let sheet = self.sheet;
-        sheet.fit(size, out)
+        self.sheet.fit(size, out)
     }
 
     // Whether keep and return take the workspace for a loaded one.
     fn is_usable(self) -> bool
         ensures { result ≡ usable_in self }
     {
-        if !self.is_counted() {
-            return false;
-        }
-        let sheet = self.sheet;
-        sheet.is_usable()
+        self.is_counted() && self.sheet.is_usable()
     }
 
-    // The place of the checkpoint with this name; the count where there is none.
-    fn place_of(self, name: &[u8]) -> usize
+    // What keep and return test first: the workspace is loaded, and the name is none that is empty or too long.
+    #[tactic(auto, unfolding(crate::specs::Workspace::if_named))]
+    fn named(self, name: &[u8]) -> Result<(), CheckpointRefusal>
+        ensures { Named self name.now result }
+    {
+        if !self.is_usable() {
+            return Err(CheckpointRefusal::Empty);
+        }
+        if crate::names::is_bad_name(name) {
+            return Err(CheckpointRefusal::BadName);
+        }
+        Ok(())
+    }
+
+    // The place of the checkpoint with this name.
+    fn place_of(self, name: &[u8]) -> Option<usize>
         requires { self.count ≤ 8 }
-        ensures { result ≡ place_of self name.now }
+        ensures { result ≡ position (λ c. holds_name name.now c.name c.len) (take self.count self.checkpoints) }
     {
-        let count = self.count;
-        let mut i: usize = 0;
-        while i < count {
-            let p = self.checkpoints[i];
-            let stored = p.name;
-            if crate::names::holds_name(stored, p.len, name) {
-                return i;
-            }
-            i += 1;
-        }
-        i
-    }
-
-    // The workspace as it is, after a call that ends so.
-    fn ends(self, answer: CheckpointAnswer) -> Checkpointed
-        ensures { checkpointed_means result ≡ (checkpoint_means answer, self) }
-    {
-        Checkpointed {
-            answer,
-            workspace: self,
-        }
+        self.checkpoints[..self.count]
+            .iter()
+            .position(|c| crate::names::holds_name(c.name, c.len, name))
     }
 
     // The standing edits kept at a place; one behind those in use is the last of them then.
+    #[tactic(auto, unfolding(crate::specs::Workspace::keep_at, crate::specs::Workspace::checkpoint_of))]
     fn keep_at(self, name: &[u8], at: usize) -> Workspace
         requires { (length name.now ≤ 16) × (at < 8) }
         ensures { result ≡ keep_at self name.now at }
     {
-        let stored = in_places(name);
-        let sheet = self.sheet;
-        let edits = sheet.edits;
-        let p = Checkpoint {
-            name: stored,
-            len: name.len(),
-            edits,
-            standing: sheet.standing,
-        };
         let mut next = self;
-        next.checkpoints[at] = p;
-        if at < self.count {
-            return next;
-        }
-        next.count = at + 1;
+        next.checkpoints[at] = Checkpoint {
+            name: in_places(name),
+            len: name.len(),
+            row: self.sheet.row,
+        };
+        next.count = self.count.max(at + 1);
         next
     }
 
     // The standing edits kept under a name.
-    pub fn keep(self, name: &[u8]) -> Checkpointed
-        ensures { checkpointed_means result ≡ keep_in self name.now }
+    #[tactic(auto, using(crate::proofs::NamePlaces::stands_at, crate::proofs::NamePlaces::or_the_next, crate::proofs::Tests::counted, crate::proofs::Tests::name_fits, crate::proofs::Tests::keep_ninth, crate::proofs::Tests::keep_done), unfolding(crate::specs::Workspace::keep_in))]
+    pub fn keep(self, name: &[u8]) -> Result<Workspace, CheckpointRefusal>
+        ensures { checkpointed_means self result ≡ keep_in self name.now }
     {
-        if !self.is_usable() {
-            return self.ends(CheckpointAnswer::Empty);
-        }
-        if crate::names::is_bad_name(name) {
-            return self.ends(CheckpointAnswer::BadName);
-        }
-        let at = self.place_of(name);
+        self.named(name)?;
+        let at = self.place_of(name).unwrap_or(self.count);
         let is_ninth = MOST_CHECKPOINTS <= at;
         if is_ninth {
-            return self.ends(CheckpointAnswer::NinthName);
+            return Err(CheckpointRefusal::NinthName);
         }
-        let kept = self.keep_at(name, at);
-        kept.ends(CheckpointAnswer::Accepted)
+        Ok(self.keep_at(name, at))
     }
 
     // The edits kept at a place made the standing ones.
+    #[tactic(auto, unfolding(crate::specs::Workspace::return_at))]
     fn return_at(self, at: usize) -> Workspace
         requires { at < 8 }
         ensures { result ≡ return_at self at }
     {
-        let p = self.checkpoints[at];
-        let edits = p.edits;
-        let mut sheet = self.sheet;
-        sheet.edits = edits;
-        sheet.standing = p.standing;
-        self.with_sheet(sheet)
+        let Checkpoint { row, .. } = self.checkpoints[at];
+        self.with_sheet(Sheet { row, ..self.sheet })
     }
 
     // The edits kept under a name made the standing ones.
-    pub fn return_to(self, name: &[u8]) -> Checkpointed
-        ensures { checkpointed_means result ≡ return_in self name.now }
+    #[tactic(auto, using(crate::proofs::NamePlaces::stands_at, crate::proofs::NamePlaces::stands, crate::proofs::NamePlaces::stands_nowhere, crate::proofs::Tests::counted, crate::proofs::Tests::return_none, crate::proofs::Tests::return_done), unfolding(crate::specs::Workspace::return_in))]
+    pub fn return_to(self, name: &[u8]) -> Result<Workspace, CheckpointRefusal>
+        ensures { checkpointed_means self result ≡ return_in self name.now }
     {
-        if !self.is_usable() {
-            return self.ends(CheckpointAnswer::Empty);
-        }
-        if crate::names::is_bad_name(name) {
-            return self.ends(CheckpointAnswer::BadName);
-        }
-        let at = self.place_of(name);
-        if self.count <= at {
-            return self.ends(CheckpointAnswer::NoSuchName);
-        }
-        let returned = self.return_at(at);
-        returned.ends(CheckpointAnswer::Accepted)
+        self.named(name)?;
+        let at = self.place_of(name).ok_or(CheckpointRefusal::NoSuchName)?;
+        Ok(self.return_at(at))
     }
 }

@@ -1,10 +1,9 @@
--- `in_places`: the loop collects the name's bytes at the front of zeros. Assumes nothing.
-use native.Mathlib.Omega.{arith}
-use Rattle.workspace.proofs.NamePlaces.{laid_more, laid_all}
+-- `in_places`: the name over the front of 16 zeros. Assumes nothing.
+use Rattle.std.proofs.lemmas.List.{drop-replicate}
+use Rattle.std.proofs.Common.{ℕ, length}
+use Rattle.workspace.specs.Names.{in_places}
 use Rattle.workspace.proofs.in_places.Goals as goal
 
-pub loop-i-preserved : goal.loop-i-preserved
-loop-i-preserved c = (omega arith, laid_more _ _ _ c.loop-i.invariant.1 c.loop-i-test.true c.requires)
-
 pub returns : goal.returns
-returns c = laid_all _ _ _ c.loop-i.invariant.1 c.loop-i-test.false
+unfolding in_places
+returns c = let z : ℕ = 0 in rw (c.copy_from_slice.ensures.after, ← drop-replicate (length c.args.name.now) 16 z)

@@ -20,4 +20,4 @@ six_stores l k p f e = rw (e, add-one k, add-two k, add-three k, add-four k, add
 pub returns : goal.returns
 returns c =
     six_stores c.args.out.now c.args.at
-    c.args.point _ c.in_focus_of.ensures
+    c.args.point _ c.from.ensures

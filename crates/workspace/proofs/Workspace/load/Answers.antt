@@ -1,41 +1,31 @@
 -- `Workspace::load`: load_in by what the load comes to, from what the sheet's load ensures. Assumes nothing.
 use Prim.Native.Nat.{ℕ}
-use mathlib.Core.Path.{◌≡◌, sym, ap, ◌∙◌}
+use mathlib.Core.Path.{◌≡◌, sym, ap}
 use mathlib.Core.List.{List}
 use mathlib.Core.Bool.{false≢true}
 use Rattle.reading.specs.Outcome.{Outcome, refused, accepted, is_accepted}
-use Rattle.placing.specs.declared.load.Refusal.{Refusal}
-use Rattle.placing.specs.declared.load.FocusAnswer.TheVariants.{Accepted, Refused}
-use Rattle.placing.specs.declared.load.FocusAnswer.{FocusAnswer}
 use Rattle.placing.specs.Load.{Focus}
-use Rattle.placing.specs.Laid.{load_means}
 use Rattle.sheet.specs.declared.Sheet.{Sheet}
-use Rattle.sheet.specs.declared.Loaded.{Loaded}
-use Rattle.sheet.specs.Sheet.{leaves, loaded_means, load_sheet}
+use Rattle.sheet.specs.Sheet.{leaves, kept_by, load_sheet}
+use Rattle.std.proofs.lemmas.Result.{err_from_is_err_and}
 use Rattle.workspace.specs.declared.Workspace.{Workspace}
 use Rattle.workspace.specs.Workspace.{without_names, load_in}
 use Rattle.workspace.proofs.Workspace.load.Goals as goal
 
--- what the sheet's load answered
-answered : (s : Sheet) (o : Outcome Focus) (r : Loaded) (a : FocusAnswer) → loaded_means r ≡ load_sheet s o → r.answer ≡ a
-    → load_means a ≡ (load_sheet s o).0
-answered s o r a e g = ap load_means (sym g) ∙ ap (λ (x : Outcome (List ℕ) × Sheet). x.0) e
+keeps : (w : Workspace) (s : Sheet) (o : Outcome Focus) (n : ℕ) → kept_by n s ≡ load_sheet s o → kept_by n w ≡ load_in w o
+unfolding load_sheet load_in
+keeps w s (refused m) n e = ap (λ (x : Outcome (List ℕ) × Sheet). (x.0, w)) e
+keeps w s (accepted f) n e = absurd (false≢true (ap (λ (x : Outcome (List ℕ) × Sheet). is_accepted x.0) e))
 
-keeps : (w : Workspace) (s : Sheet) (o : Outcome Focus) (r : Loaded) (y : Refusal) → loaded_means r ≡ load_sheet s o → r.answer ≡ Refused y
-    → (load_means (Refused y), w) ≡ load_in w o
-unfolding load_sheet load_in load_means
-keeps w s (refused n) r y e g = ap (λ (x : Outcome (List ℕ)). (x, w)) (answered s (refused n) r (Refused y) e g)
-keeps w s (accepted f) r y e g = absurd (false≢true (ap is_accepted (answered s (accepted f) r (Refused y) e g)))
+clears : (w : Workspace) (s : Sheet) (o : Outcome Focus) (t : Sheet) → leaves t ≡ load_sheet s o
+    → (v : Workspace) → v ≡ without_names t → leaves v ≡ load_in w o
+unfolding load_sheet load_in
+clears w s (refused m) t e v d = absurd (false≢true (ap (λ (x : Outcome (List ℕ) × Sheet). is_accepted x.0) (sym e)))
+clears w s (accepted f) t e v d = rw d (ap (λ (x : Outcome (List ℕ) × Sheet). leaves (without_names x.1)) e)
 
-clears : (w : Workspace) (s : Sheet) (o : Outcome Focus) (r : Loaded) → loaded_means r ≡ load_sheet s o → r.answer ≡ Accepted
-    → (v : Workspace) → v ≡ without_names r.sheet → (load_means Accepted, v) ≡ load_in w o
-unfolding load_sheet load_in load_means
-clears w s (refused n) r e g v d = absurd (false≢true (ap is_accepted (sym (answered s (refused n) r Accepted e g))))
-clears w s (accepted f) r e g v d =
-    ap leaves (d ∙ ap (λ (x : Outcome (List ℕ) × Sheet). without_names x.1) e)
+pub returns-in_err-sheet : goal.returns-in_err-sheet
+returns-in_err-sheet c =
+    let p = err_from_is_err_and c.from_residual.result c.from_residual.ensures.1 in rw (p.1, p.2) (keeps _ _ _ _ c.in_err-sheet.ensures)
 
-pub returns-in-Refused : goal.returns-in-Refused
-returns-in-Refused c = keeps _ _ _ _ _ c.load-loaded.ensures c.in-Refused.is
-
-pub returns-in-Accepted : goal.returns-in-Accepted
-returns-in-Accepted c = clears _ _ _ _ c.load-loaded.ensures c.in-Accepted.is _ c.without_names-workspace.ensures
+pub returns : goal.returns
+returns c = clears _ _ _ _ c.in_ok-sheet.ensures _ c.without_names.ensures
