@@ -5,11 +5,11 @@
 // tools/reference/compare-lines run the program, and `stdout` holds 01's whole case).
 #![tactic(auto)]
 
-ghost use Rattle.std.specs.Prelude.{◌≡◌, ◌<◌, ◌≤◌, ◌^◌, length, take, IfOk};
+ghost use Rattle.std.specs.Prelude.{◌≡◌, ◌≤◌, length, take};
 ghost use Rattle.std.proofs.lemmas.List.Edits.{sets};
 ghost use Rattle.session.specs.Answering.{most_text};
 ghost use Rattle.stream.specs.Stream.{line_room, last_text};
-ghost use Rattle.focusdesk.specs.Served.{ServesOnce, Serves, came, got_of, Interrupts, ReadsOnce};
+ghost use Rattle.focusdesk.specs.Served.{ServesOnce, Serves, Gets, ReadsOnce};
 
 use sheet::Sheet;
 use std::io;
@@ -26,8 +26,16 @@ struct After {
     more: bool,
 }
 
+// What a read answered: how many bytes came, or that it failed, and whether a signal interrupted it.
+#[derive(Clone, Copy, PartialEq, Eq, Debug)]
+enum Got {
+    Bytes(usize),
+    Interrupted,
+    Failed,
+}
+
 // What a write was handed, the first bytes of a buffer, and whether all of them went out.
-#[derive(Clone, Copy)]
+#[derive(Clone, Copy, PartialEq, Eq, Debug)]
 struct Flushed {
     handed: usize,
     sent: bool,
@@ -52,17 +60,13 @@ fn no_line() -> [u8; LINE_ROOM]
 
 // Writes text and answers whether all of it went out. A write that comes short is gone on with; one that fails, be it that a signal
 // interrupted it, or takes nothing is the last.
+// kept: std's write_all tries a write again that a signal interrupted; and whether all went out is all that the program asks.
 fn write_all(rt: &impl Print, text: &[u8]) -> bool {
-    let mut done = 0;
-    while done < text.len() {
-        match rt.write_some(&text[done..]) {
-            Ok(n) => {
-                if n == 0 {
-                    return false;
-                }
-                done += n;
-            }
-            Err(_) => return false,
+    let mut rest = text;
+    while !rest.is_empty() {
+        match rt.write_some(rest) {
+            Ok(0) | Err(_) => return false,
+            Ok(n) => rest = &rest[n..],
         }
     }
     true
@@ -94,14 +98,13 @@ fn serve_once(
     ensures { ServesOnce sheet line.old (take held line.old) input.now line.new out.new result }
 {
     let fed = stream::feed(sheet, line, held, input, out, 0);
-    let flushed = flush(rt, out, fed.at);
-    let after = fed.sheet;
+    let Flushed { handed, sent } = flush(rt, out, fed.at);
     Once {
-        sheet: after,
+        sheet: fed.sheet,
         held: fed.held,
         used: fed.used,
-        handed: flushed.handed,
-        sent: flushed.sent,
+        handed,
+        sent,
     }
 }
 
@@ -125,24 +128,21 @@ fn serve(
         handed: 0,
         sent: true,
     };
-    let mut i = 0;
-    while i < input.len() {
-        let before = once.sheet;
-        once = serve_once(rt, before, line, once.held, &input[i..], out);
+    let mut rest = input;
+    while !rest.is_empty() {
+        once = serve_once(rt, once.sheet, line, once.held, rest, out);
         if !once.sent {
-            let after = once.sheet;
             return After {
-                sheet: after,
+                sheet: once.sheet,
                 held: once.held,
                 sent: false,
                 more: false,
             };
         }
-        i += once.used;
+        rest = &rest[once.used..];
     }
-    let after = once.sheet;
     After {
-        sheet: after,
+        sheet: once.sheet,
         held: once.held,
         sent: true,
         more: true,
@@ -162,49 +162,27 @@ fn finish(
     ensures { (out.new ≡ sets out.old 0 (last_text sheet (take held line.now))) × (result ≡ length (last_text sheet (take held line.now))) }
 {
     let at = stream::last(sheet, line, held, out, 0);
-    let flushed = flush(rt, out, at);
-    flushed.handed
+    flush(rt, out, at).handed
 }
 
-// What a read answered, as a number: how many bytes came, or -1 where it failed.
-fn got_by(read: io::Result<usize>) -> isize
-    requires { IfOk read (λ n. n < 2 ^ 63) }
-    ensures { result ≡ got_of read }
+// What a read answered. No contract can tell a signal from another failure.
+#[tactic(auto, unfolding(crate::specs::Served::Gets))]
+fn got_by(read: io::Result<usize>) -> Got
+    ensures { Gets read result }
 {
     match read {
-        Ok(n) => n as isize,
-        Err(_) => -1,
+        Ok(n) => Got::Bytes(n),
+        Err(e) if e.kind() == ErrorKind::Interrupted => Got::Interrupted,
+        Err(_) => Got::Failed,
     }
-}
-
-// Tells whether a read was interrupted by a signal.
-fn was_interrupted(read: io::Result<usize>) -> bool
-    ensures { Interrupts (got_of read) result }
-{
-    match read {
-        Ok(_) => false,
-        Err(e) => e.kind() == ErrorKind::Interrupted,
-    }
-}
-
-// How many bytes of a buffer are those that a read put there.
-fn count(got: isize, input: &[u8]) -> usize
-    ensures in_bounds { result ≤ length input.now }
-    ensures value { take result input.now ≡ came got input.now }
-{
-    if got < 0 {
-        return 0;
-    }
-    let n = got as usize;
-    if n < input.len() { n } else { input.len() }
 }
 
 // Answers what came by a read: `got` is what it answered, and the bytes lie at the start of `input`. A read that a signal interrupts is
 // tried again; any other that fails ends the program, and so does the end of the input.
+#[tactic(auto, using(crate::proofs::Laws::some_came), unfolding(crate::specs::Served::ReadsOnce))]
 fn after_read(
     rt: &impl Print,
-    got: isize,
-    interrupted: bool,
+    got: Got,
     sheet: Sheet,
     line: &mut [u8; LINE_ROOM],
     held: usize,
@@ -213,27 +191,30 @@ fn after_read(
 ) -> After
     requires most_text_in_bounds { most_text ≤ length out.old }
     requires line_len { length (take held line.old) ≡ held }
-    ensures { ReadsOnce got interrupted sheet line.old held input.now out.old line.new out.new result }
+    ensures { ReadsOnce got sheet line.old held input.now out.old line.new out.new result }
 {
-    if got < 0 {
-        return After {
-            sheet,
-            held,
-            sent: true,
-            more: interrupted,
-        };
-    }
-    if got == 0 {
-        finish(rt, sheet, line, held, out);
-        return After {
-            sheet,
-            held: 0,
-            sent: true,
+    let again = After {
+        sheet,
+        held,
+        sent: true,
+        more: true,
+    };
+    match got {
+        Got::Interrupted => again,
+        Got::Failed => After {
             more: false,
-        };
+            ..again
+        },
+        Got::Bytes(0) => {
+            finish(rt, sheet, line, held, out);
+            After {
+                held: 0,
+                more: false,
+                ..again
+            }
+        }
+        Got::Bytes(n) => serve(rt, sheet, line, held, numbers::io::head(input, n), out),
     }
-    let n = count(got, input);
-    serve(rt, sheet, line, held, &input[..n], out)
 }
 
 // Reads until there is no more. It is told to end after 2^64 - 1 reads, which no run comes to.
@@ -243,28 +224,15 @@ fn main(rt: HostRuntime) {
     let input: &mut [u8] = &mut input_space;
     let mut out_space = [0u8; 65536];
     let out: &mut [u8] = &mut out_space;
-    let sheet = Sheet::new();
     let mut after = After {
-        sheet,
+        sheet: Sheet::new(),
         held: 0,
         sent: true,
         more: true,
     };
     for _ in 0..u64::MAX {
-        let before = after.sheet;
-        let read = rt.stdin().read(input);
-        let got = got_by(read);
-        let interrupted = was_interrupted(read);
-        after = after_read(
-            &rt,
-            got,
-            interrupted,
-            before,
-            &mut line,
-            after.held,
-            input,
-            out,
-        );
+        let got = got_by(rt.stdin().read(input));
+        after = after_read(&rt, got, after.sheet, &mut line, after.held, input, out);
         if !after.more {
             return;
         }

@@ -11,11 +11,12 @@ use native.Mathlib.Nat.{zero-add}
 use native.Mathlib.Omega.{arith}
 use borrow.Author.Tests.{lt-ltb, le-ltb}
 use borrow.Rule.Slice.PartMut.{put_mid, post_of}
-use Rattle.reading.specs.Focus.{mode_number}
 use Rattle.placing.specs.declared.focus.FocusPoint.{FocusPoint}
-use Rattle.placing.specs.Load.{origin_number}
-use Rattle.sheet.specs.declared.listing.ListHead.{ListHead}
-use Rattle.sheet.specs.Listing.{flat, over, head_numbers, has_room, with_points}
+use Rattle.reading.specs.declared.geometry.Size.{Size}
+use Rattle.reading.specs.declared.focus.FocusAreaMode.{FocusAreaMode}
+use Rattle.placing.specs.declared.load.FocusOrigin.{FocusOrigin}
+use Rattle.sheet.specs.Head.{head_of}
+use Rattle.sheet.specs.Listing.{flat, over, has_room, with_points}
 use Rattle.sheet.proofs.Buffer.{no_room, has_room_lem}
 use Rattle.focuspoints.specs.Buffer.{room_number, with_numbers}
 
@@ -23,17 +24,12 @@ pub laid : (vs l : List ℕ) → length vs ≤ length l → sets l 0 vs ≡ over
 laid vs l h = sets-eq vs l 0 (rw (zero-add (length vs)) h) ∙ rw (zero-add (length vs))
 
 -- ---- a listing's head
-head_length : (x : ListHead) → length (head_numbers x) ≡ 6
-unfolding head_numbers
-head_length x = refl
+pub head_length : (f : Size) (n k : ℕ) (m : FocusAreaMode) (o : FocusOrigin) → length (head_of f n k m o) ≡ 6
+unfolding head_of
+head_length f n k m o = refl
 
-pub head_stores : (l : List ℕ) (x : ListHead) (m o : ℕ) → m ≡ mode_number x.mode → o ≡ origin_number x.origin → 6 ≤ length l →
-    set (set (set (set (set (set l 0 x.frame.width) 1 x.frame.height) 2 x.count) 3 x.index) 4 m) 5 o
-    ≡ over (head_numbers x) l
-unfolding head_numbers
-head_stores l x m o e f h =
-    rw (e, f)
-    (laid (x.frame.width ∷ x.frame.height ∷ x.count ∷ x.index ∷ mode_number x.mode ∷ origin_number x.origin ∷ []) l h)
+pub head_over : (hd l a : List ℕ) → length hd ≡ 6 → a ≡ hd → a ++ drop 6 l ≡ over hd l
+head_over hd l a h e = rw (e, h) refl
 
 -- ---- room, or none
 pub too_short : (n : ℕ) (vs l : List ℕ) → length l < n → (13 ≡ room_number n (length l)) × (l ≡ with_numbers n vs l)
@@ -68,12 +64,10 @@ module _ (ps : List FocusPoint) (n : ℕ) (small : n ≤ 39) (l : List ℕ) (six
       rw (none_after l, append-nil ys, k.1) (take-append-drop 6 l) in
       rw e (too_short (6 + 6 * n) vs l (omega (arith, length-drop 6 l, k.0)))
 
-  pub points_written : not w ≡ false → (x : ListHead) (l' : List ℕ) → l' ≡ over (head_numbers x) (put_mid 6 (length l - 6) l ys)
-      → (0 ≡ room_number (6 + 6 * n) (length l)) × (l' ≡ with_numbers (6 + 6 * n) (head_numbers x ++ flat (take n ps)) l)
-  points_written t x l' e =
+  pub points_written : not w ≡ false → (hd : List ℕ) → length hd ≡ 6 → (l' : List ℕ) → l' ≡ over hd (put_mid 6 (length l - 6) l ys)
+      → (0 ≡ room_number (6 + 6 * n) (length l)) × (l' ≡ with_numbers (6 + 6 * n) (hd ++ flat (take n ps)) l)
+  points_written t hd eh l' e =
       let k = has_room_lem ps n small (drop 6 l) ys w behind t in
-      let hd = head_numbers x in
-      let eh : length hd ≡ 6 = head_length x in
       let vs = flat (take n ps) in
       let g : over hd (put_mid 6 (length l - 6) l ys) ≡ over (hd ++ vs) l =
       rw (none_after l, append-nil ys, eh, drop_at (take 6 l) ys 6 (length-take-le 6 l six), k.1, length-append hd vs, eh, append_assoc hd vs, drop-drop (length vs) 6 l) in

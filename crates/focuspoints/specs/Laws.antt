@@ -1,7 +1,8 @@
 -- What follows of every photograph, in a caller's words. proofs/Laws.antt proves each.
+use Rattle.std.specs.Prelude.{Option}
+use Rattle.reading.specs.declared.geometry.Size.{Size}
 use Rattle.std.specs.Prelude.{ℕ, ◌≤◌, List, ◌∷◌, ◌⊎◌, ◌≡◌, length}
 use Rattle.reading.specs.Focus.{mode_number}
-use Rattle.reading.specs.declared.geometry.OptionalSize.{OptionalSize}
 use Rattle.placing.specs.Focus.{focus_of}
 use Rattle.placing.specs.Load.{Focus, origin_number}
 use Rattle.placing.specs.Sound.{SoundFocus}
@@ -21,19 +22,19 @@ ListsTheLoad =
 -- 0, 1 to 6, or 13: no other number is returned
 abbrev pub NumbersReturned : Type 0
 NumbersReturned =
-    (block : List ℕ) (raw picture : OptionalSize) (model : List ℕ) (room : ℕ) →
+    (block : List ℕ) (raw picture : Option Size) (model : List ℕ) (room : ℕ) →
     (photograph_number (focus_of block raw picture model) room ≤ 6)
     ⊎ (photograph_number (focus_of block raw picture model) room ≡ 13)
 
 -- 240 places are enough for every photograph
 abbrev pub RoomEnough : Type 0
 RoomEnough =
-    (block : List ℕ) (raw picture : OptionalSize) (model : List ℕ) (room : ℕ) → 240 ≤ room →
+    (block : List ℕ) (raw picture : Option Size) (model : List ℕ) (room : ℕ) → 240 ≤ room →
     photograph_number (focus_of block raw picture model) room ≤ 6
 
 -- a number that is not 0 keeps the buffer
 abbrev pub PhotographKeeps : Type 0
 PhotographKeeps =
-    (block : List ℕ) (raw picture : OptionalSize) (model out : List ℕ) →
+    (block : List ℕ) (raw picture : Option Size) (model out : List ℕ) →
     (photograph_number (focus_of block raw picture model) (length out) ≡ 0 → ⊥) →
     photograph_buffer (focus_of block raw picture model) out ≡ out

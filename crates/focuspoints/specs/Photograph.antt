@@ -1,16 +1,16 @@
 -- One photograph: what a load gives, listed at once, without edits. The load is that of `placing`, the listing that of the journal (01's
 -- book) which holds it.
+use Rattle.std.specs.Prelude.{Option, Some, None}
+use Rattle.reading.specs.declared.geometry.Size.{Size}
 use Rattle.std.specs.Prelude.{ℕ, ◌+◌, ◌*◌, cond, List, [], ◌++◌, ◌≡◌, eqb, length}
 use Rattle.reading.specs.Outcome.{Outcome, refused, accepted}
-use Rattle.reading.specs.declared.geometry.OptionalSize.{OptionalSize}
-use Rattle.reading.specs.declared.geometry.OptionalSize.TheVariants.{Missing, Given}
 use Rattle.placing.specs.Load.{Focus}
 use Rattle.journal.specs.Journal.{present_frame, listing, head, numbers}
 use Rattle.focuspoints.specs.Buffer.{room_number, with_numbers}
 
 -- "raw and picture sizes (each may be missing)": a size is missing where its first number is 0, and then its sides are not looked at
-unfoldable pub given_size : ℕ → ℕ → ℕ → OptionalSize
-given_size given width height = cond (eqb given 0) Missing (Given (record { width = width; height = height }))
+unfoldable pub given_size : ℕ → ℕ → ℕ → Option Size
+given_size given width height = cond (eqb given 0) None (Some (record { width = width; height = height }))
 
 -- "frame, count, primary's index from 0, mode .., origin", and then "six 32-bit numbers a point", of a load with no edits
 unfoldable pub listing_of : Focus → List ℕ

@@ -1,61 +1,25 @@
--- Laws of a script's lines. The first line is what stands before the first feed, the rest follows behind it (`lines_first`): so the
--- code may go line by line. Then the laws of specs/Laws.antt: each by induction along a line's characters, with what was read of the
--- line so far, then along the lines. Assumes nothing.
-use Prim.Native.Nat.{ℕ, suc, ◌+◌, ◌<◌, ◌≤◌, min}
-use mathlib.Core.Path.{◌≡◌, refl, sym, ap, ◌∙◌}
-use mathlib.Core.Bool.{true, false}
+-- Laws of a script's lines: those of specs/Laws.antt, each by induction along a line's characters, with what was read of the line so
+-- far, then along the lines; and that the library splits a script into these lines (`first_piece`). Assumes nothing.
+use Prim.Native.Nat.{ℕ, suc, ◌+◌, ◌<◌, ◌≤◌, ◌-◌, min}
+use mathlib.Core.Path.{◌≡◌, refl, sym, ap, subst, ◌∙◌}
+use mathlib.Core.Bool.{Bool, true, false, true≢false}
+use Rattle.std.specs.Borrow.{Bor}
+use Rattle.std.specs.Prelude.{Option, Some, None}
+use Rattle.std.specs.Option.{MatchOption, unwrap_or}
+use Rattle.std.specs.List.{AllWithin, IsFirstMatchOrLen}
 use mathlib.Core.List.{List, [], ◌∷◌, ◌++◌, append-nil, append_assoc, flatten}
 use mathlib.Core.Logic.{⊎_elim, ◌⊎◌, inl, inr}
 use lib.Dec.{eqb}
-use lib.ListN.{length, take, drop, get_or, length-append, drop_of_length-le}
-use lib.Seq.{drop-cons}
+use lib.ListN.{length, take, drop, get_or, length-append, get_or-append}
+use lib.Seq.{take-suc, take_all, drop-append_seam}
+use lib.Pointwise.{pointwise, bytes_decides}
+use Rattle.std.proofs.lemmas.List.{take-append-drop}
 use native.Mathlib.Omega.{arith}
-use native.Mathlib.Numerals.{add-one}
-use borrow.Author.Tests.{eq-eqb, ne_eqb, eqb-true, eqb-false}
+use borrow.Author.Tests.{ne_eqb, eqb-true, eqb-false}
 use Rattle.laws.proofs.Tests.{by_bool, by_cond, by_order}
 use Rattle.script.specs.Script.{lines_from, lines_of}
-use Rattle.script.specs.Inside.{feed_at}
+use Rattle.script.specs.Inside.{IsUnfed}
 use Rattle.script.specs.Laws.{NoFeed, NoFeeds, fed, EmptyScript, FedLines, LastUnfed, LinesUnfed, LinesAreScript}
-
--- a script that is not empty starts with a line
-pub lines_first : (s l : List ℕ) → 0 < length l + length s
-    → lines_from l s ≡ (l ++ take (feed_at s) s) ∷ lines_from [] (drop (suc (feed_at s)) s)
-unfolding lines_from feed_at
-lines_first [] l h = rw (ne_eqb (length l) 0 (λ e. omega arith), append-nil l)
-lines_first (c ∷ s) l h =
-    ⊎_elim
-    (λ (e : eqb c 10 ≡ true). rw (e, append-nil l))
-    (λ (e : eqb c 10 ≡ false).
-    rw e (lines_first s (l ++ (c ∷ [])) (omega (arith, length-append l (c ∷ []))) ∙ rw (append_assoc l (c ∷ []) (take (feed_at s) s))))
-    (by_bool (eqb c 10))
-
-pub feed_within : (s : List ℕ) → feed_at s ≤ length s
-unfolding feed_at
-feed_within [] = omega arith
-feed_within (c ∷ s) =
-    by_cond (λ (n : ℕ). n ≤ suc (length s)) (eqb c 10) (λ e. omega arith) (λ e. omega (arith, feed_within s))
-
-pub feed_here : (s : List ℕ) (i : ℕ) → i < length s → get_or s i 0 ≡ 10 → feed_at (drop i s) ≡ 0
-unfolding feed_at
-feed_here s i h e = rw (drop-cons s i 0 h, eq-eqb (get_or s i 0) 10 e)
-
-pub feed_more : (s : List ℕ) (i : ℕ) → i < length s → (get_or s i 0 ≡ 10 → ⊥) → feed_at (drop i s) ≡ suc (feed_at (drop (i + 1) s))
-unfolding feed_at
-feed_more s i h e = rw (add-one, drop-cons s i 0 h, ne_eqb (get_or s i 0) 10 e)
-
-pub feed_none : (s : List ℕ) (i : ℕ) → length s ≤ i → feed_at (drop i s) ≡ 0
-unfolding feed_at
-feed_none s i h = rw (drop_of_length-le s h)
-
--- places past the end are all alike
-pub drop_min : (s : List ℕ) (k : ℕ) → drop k s ≡ drop (min k (length s)) s
-drop_min s k =
-    ⊎_elim
-    (λ (h : k < length s). let e : min k (length s) ≡ k = omega arith in rw e)
-    (λ (h : length s ≤ k).
-    let e : min k (length s) ≡ length s = omega arith in
-    rw (e, drop_of_length-le s {i = k} h, drop_of_length-le s {i = length s} (omega arith)))
-    (by_order k (length s))
 
 -- ---- the laws of specs/Laws.antt
 pub empty_script : EmptyScript
@@ -76,6 +40,82 @@ lines_last l [] h g = rw (ne_eqb (length l) 0 (λ e. omega arith), append-nil l)
 lines_last l (c ∷ line) h g =
     rw (ne_eqb c 10 h.0)
     (lines_last (l ++ (c ∷ [])) line h.1 (omega (arith, length-append l (c ∷ []))) ∙ rw (append_assoc l (c ∷ []) line))
+
+-- ---- how the library splits a script: up to a feed, with it, or to the end
+abbrev pub is_feed : ℕ → Bool
+is_feed c = eqb c 10
+
+no_feed : (l : List ℕ) → ((k : ℕ) → k < length l → is_feed (get_or l k 0) ≡ false) → NoFeed l
+unfolding NoFeed
+no_feed [] h = tt
+no_feed (c ∷ l) h = (eqb-false c 10 (h 0 (omega arith)), no_feed l (λ k g. h (suc k) (omega arith)))
+
+-- behind the places before the first feed
+module _ (i : ℕ) where
+  unfed_front : (l t : List ℕ) → AllWithin (λ c. is_feed c ≡ false) (l ++ t) 0 i → length l ≤ i → NoFeed l
+  unfed_front l t p h =
+      no_feed l (λ k g.
+      let q : is_feed (get_or (l ++ t) k 0) ≡ false = p k 0 (omega arith) (omega arith) in
+      rw (get_or-append l t 0 k g) at q)
+
+  fed_piece : (l t : List ℕ) → length (l ++ (10 ∷ [])) ≤ i + 1 → AllWithin (λ c. is_feed c ≡ false) ((l ++ (10 ∷ [])) ++ t) 0 i
+      → lines_from [] ((l ++ (10 ∷ [])) ++ t) ≡ l ∷ lines_from [] t
+  fed_piece l t h p =
+      let e : (l ++ (10 ∷ [])) ++ t ≡ l ++ (10 ∷ t) = append_assoc l (10 ∷ []) t in
+      rw e (lines_fed [] l t (unfed_front l (10 ∷ t) (rw e at p) (omega (arith, length-append l (10 ∷ [])))))
+
+  last_piece : (l t : List ℕ) → NoFeed l → 0 < length (l ++ t) → length t ≡ 0 → lines_from [] (l ++ t) ≡ l ∷ lines_from [] t
+  unfolding lines_from
+  last_piece l [] f h z = rw (append-nil l) (lines_last [] l f (omega (arith, h, length-append l [])))
+  last_piece l (c ∷ t) f h z = absurd (omega arith)
+
+  unfed_piece : (l t : List ℕ) → length l ≡ min (i + 1) (length (l ++ t)) → 0 < length (l ++ t) → IsFirstMatchOrLen is_feed (l ++ t) i
+      → ((before : List ℕ) → l ≡ before ++ (10 ∷ []) → ⊥) → lines_from [] (l ++ t) ≡ l ∷ lines_from [] t
+  unfed_piece l t n h p u =
+      ⊎_elim
+      (λ (g : i < length (l ++ t)).
+      let m : length l ≡ i + 1 = omega arith in
+      let f : get_or (l ++ t) i 0 ≡ 10 = eqb-true _ 10 (p.1 g 0) in
+      let d : get_or l i 0 ≡ 10 = rw (get_or-append l t 0 i (omega arith)) at f in
+      let a : take (suc i) l ≡ take i l ++ (get_or l i 0 ∷ []) = take-suc l i 0 (omega arith) in
+      let b : take (suc i) l ≡ l = take_all (suc i) l (omega arith) in
+      absurd (u (take i l) (sym b ∙ rw d at a)))
+      (λ (g : length (l ++ t) ≤ i). last_piece l t (unfed_front l t p.0 (omega (arith, length-append l t))) h (omega (arith, length-append l t)))
+      (by_order i (length (l ++ t)))
+
+pub first_piece : (s x t l : List ℕ) (i : ℕ) → s ≡ x ++ t → length x ≡ min (i + 1) (length s) → 0 < length s
+    → IsFirstMatchOrLen is_feed s i → IsUnfed x l → lines_from [] s ≡ l ∷ lines_from [] t
+first_piece s x t l i e n h p u =
+    ⊎_elim
+    (λ (g : x ≡ l ++ (10 ∷ [])). rw (e, g) (fed_piece i l t (omega (arith, ap length g, n)) (rw (e, g) at p).0))
+    (λ (g : (x ≡ l) × ((before : List ℕ) → x ≡ before ++ (10 ∷ []) → ⊥)).
+    rw (e, g.0) (unfed_piece i l t (rw (e, g.0) at n) (rw (e, g.0) at h) (rw (e, g.0) at p) (rw g.0 at g.1)))
+    u
+
+-- ---- a line without the feed at its end, if any, as the library strips it
+module _ (s : List ℕ) where
+  abbrev pub last_is_feed : Bool
+  last_is_feed = pointwise eqb (drop (length s - 1) s) (10 ∷ [])
+
+  pub stripped : (l : List ℕ) → last_is_feed ≡ true → l ≡ take (length s - 1) s → IsUnfed s l
+  stripped l e f =
+      let d : drop (length s - 1) s ≡ 10 ∷ [] = (bytes_decides _ _).0 e in
+      inl (sym (take-append-drop (length s - 1) s) ∙ rw (d, f))
+
+  pub not_stripped : last_is_feed ≡ false → IsUnfed s s
+  not_stripped e = inr (refl, unended)
+    where
+      unended : (before : List ℕ) → s ≡ before ++ (10 ∷ []) → ⊥
+      unended before f =
+          let n : length s - 1 ≡ length before = omega (arith, ap length f, length-append before (10 ∷ [])) in
+          let d : drop (length s - 1) s ≡ 10 ∷ [] = rw (n, f) (drop-append_seam before (10 ∷ [])) in
+          true≢false (sym ((bytes_decides _ _).1 d) ∙ e)
+
+  pub stripped_told : (b : Bor (List ℕ)) (r : Option (Bor (List ℕ))) → s ≡ b.now
+      → MatchOption r (last_is_feed ≡ false) (λ x. (last_is_feed ≡ true) × (x.now ≡ take (length s - 1) s) × (length x.now + 1 ≡ length s))
+      → IsUnfed s (unwrap_or r b).now
+  stripped_told b None e h = subst (λ (u : List ℕ). IsUnfed s u) e (not_stripped h)
+  stripped_told b (Some x) e h = stripped x.now h.0 h.1
 
 -- lines with their feeds, before any script
 pub lines_before : (lines : List (List ℕ)) (s : List ℕ) → NoFeeds lines → lines_of (fed lines ++ s) ≡ lines ++ lines_of s

@@ -1,7 +1,7 @@
 -- What only the code needs: what its own helpers give.
-use Rattle.std.specs.Prelude.{ℕ, suc, cond, List, [], ◌∷◌, eqb}
+use Rattle.std.specs.Prelude.{List, ◌≡◌, ◌⊎◌, ℕ}
+use mathlib.Core.List.{[], ◌∷◌, ◌++◌}
 
--- where the first line feed is; the length where there is none
-unfoldable pub feed_at : List ℕ → ℕ
-feed_at [] = 0
-feed_at (c ∷ script) = cond (eqb c 10) 0 (suc (feed_at script))
+-- a line is what it was with a feed behind it, or is as it was, and then ends with none
+abbrev pub IsUnfed : List ℕ → List ℕ → Type 0
+IsUnfed fed line = (fed ≡ line ++ (10 ∷ [])) ⊎ ((fed ≡ line) × ((before : List ℕ) → fed ≡ before ++ (10 ∷ []) → ⊥))

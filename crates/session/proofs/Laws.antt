@@ -10,14 +10,13 @@ use native.Mathlib.Omega.{arith}
 use Rattle.laws.proofs.Tests.{by_bool, by_order}
 use Rattle.reading.specs.Outcome.{Outcome, refused, accepted}
 use Rattle.hex_lines.specs.Hex.{well_formed, bytes_of, decoded_of, decoded_means, buffer_of}
-use Rattle.hex_lines.specs.declared.Decoded.{Decoded}
-use Rattle.hex_lines.specs.declared.Decoded.TheVariants.{Malformed, Bytes}
+use Rattle.std.specs.Prelude.{Option, Some, None}
 use Rattle.hex_lines.proofs.Laws.{bytes_long, well_over, well_short}
 use Rattle.session.specs.Lines.{spelled, spelled_in}
 
 -- a line that decodes to d, its bytes laid over z
-module _ (line z z₁ : List ℕ) (d : Decoded) (ed : decoded_means d ≡ decoded_of line) (ez : z₁ ≡ buffer_of line z) (lz : 2048 ≡ length z) where
-  pub line_bad : d ≡ Malformed → spelled line ≡ refused 14
+module _ (line z z₁ : List ℕ) (d : Option ℕ) (ed : decoded_means d ≡ decoded_of line) (ez : z₁ ≡ buffer_of line z) (lz : 2048 ≡ length z) where
+  pub line_bad : d ≡ None → spelled line ≡ refused 14
   unfolding decoded_of spelled
   line_bad m =
       ⊎_elim
@@ -28,7 +27,7 @@ module _ (line z z₁ : List ℕ) (d : Decoded) (ed : decoded_means d ≡ decode
       (λ (e : well_formed line ≡ false). rw e)
       (by_bool (well_formed line))
 
-  module _ (n : ℕ) (m : d ≡ Bytes n) where
+  module _ (n : ℕ) (m : d ≡ Some n) where
     well : well_formed line ≡ true
     unfolding decoded_of
     well =

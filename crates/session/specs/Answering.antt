@@ -1,11 +1,11 @@
 -- What the sheet answers to lines, by the definitions that its contracts promise: its texts, the sheet that a line leaves, and what `step`
 -- promises.
-use Rattle.std.specs.Prelude.{ℕ, ◌≤◌, List, [], ◌∷◌, ◌≡◌, length}
-use Rattle.text.specs.Put.{Put}
+use Rattle.std.specs.Prelude.{ℕ, List, [], ◌∷◌, ◌≡◌}
+use Rattle.text.specs.declared.Writer.{Writer}
+use Rattle.text.specs.Put.{WritesUpTo}
 use Rattle.reading.specs.Outcome.{Outcome, refused, accepted}
 use Rattle.sheet.specs.declared.Sheet.{Sheet}
 use Rattle.journal.specs.SheetCalls.{sheet_step}
-use Rattle.session.specs.declared.Stepped.{Stepped}
 use Rattle.session.specs.Lines.{Spelled, contents, asks, spelled}
 use Rattle.session.specs.Texts.{text_by}
 
@@ -27,8 +27,7 @@ sheet_texts s (line ∷ lines) = sheet_text s (spelled line) ∷ sheet_texts (sh
 abbrev pub most_text : ℕ
 most_text = 2700
 
--- what answering leaves: the sheet, the text at its place in the buffer, and the next place
-pub record Answers (s : Sheet) (spelt : Outcome Spelled) (before : List ℕ) (at : ℕ) (after : List ℕ) (r : Stepped) : Type 0 where
-  pub left : r.sheet ≡ sheet_next s spelt
-  pub put : Put before at (sheet_text s spelt) after r.at
-  pub short : length (sheet_text s spelt) ≤ most_text
+-- what answering leaves: the sheet, and its text behind what was written before
+pub record Answers (s : Sheet) (spelt : Outcome Spelled) (before after : Writer) (next : Sheet) : Type 0 where
+  pub left : next ≡ sheet_next s spelt
+  pub written : WritesUpTo before (sheet_text s spelt) most_text after

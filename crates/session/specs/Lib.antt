@@ -1,6 +1,5 @@
 pub mod Lines
 pub mod Texts
 pub mod Answering
-pub mod Inside
 pub mod Claim
 pub mod Laws

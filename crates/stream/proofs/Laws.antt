@@ -1,37 +1,33 @@
 -- Laws of the contracts: what is held grows by a character (`char_more`); characters, then a line, then lines one after the other are
 -- taken as the one piece that they make up (`taken_join`); while there is room for an answer the text of a line finds room
--- (`lines_more`), so that no answer is cut, and else no line is begun (`feeds_some`); and feeding gets on where the buffer has room for
+-- (`rest_more`), so that no answer is cut, and else no line is begun (`rest_stops`); and feeding gets on where the buffer has room for
 -- one answer (`progress`). Assumes nothing.
 use Prim.Native.Nat.{ℕ, ◌+◌, ◌-◌, ◌<◌, ◌≤◌, min}
 use mathlib.Core.Path.{◌≡◌, refl, sym, ap, ◌∙◌}
-use mathlib.Core.Bool.{Bool, true, false, not}
+use mathlib.Core.Bool.{Bool, true, false}
 use mathlib.Core.List.{List, [], ◌∷◌, ◌++◌, append-nil, append_assoc}
 use mathlib.Core.Logic.{⊎_elim, ◌⊎◌, inl, inr}
-use lib.Dec.{leb}
-use lib.ListN.{length, take, drop, get_or, set, length-append, length-drop, length-set, length-take, take-append-drop, drop_of_length-le}
+use lib.Dec.{eqb, leb}
+use lib.ListN.{length, take, drop, get_or, set, length-append, length-drop, length-set, take-append-drop, drop_of_length-le}
 use lib.Seq.{set_out, take-suc, take_all, take-add, take-suc-set, take-append-le, length-take-le, drop-cons, drop-drop}
 use native.Mathlib.Omega.{arith}
 use native.Mathlib.Nat.{add-zero, zero-add, add_assoc}
 use native.Mathlib.Numerals.{add-one}
-use borrow.Author.Tests.{ne_eqb, leb-true, leb-false, le-leb, lt-leb, not-true, not-false}
+use borrow.Author.Tests.{eqb-true, ne_eqb, leb-true, leb-false, le-leb, lt-leb}
 use Rattle.text.specs.Put.{Put}
 use Rattle.laws.proofs.Tests.{by_order}
 use Rattle.text.proofs.Laws.{put_none, put_same, put_room, join}
 use Rattle.sheet.specs.declared.Sheet.{Sheet}
-use Rattle.session.specs.declared.Stepped.{Stepped}
 use Rattle.session.specs.Lines.{spelled}
-use Rattle.session.specs.Answering.{sheet_text, sheet_next, most_text, Answers}
+use Rattle.session.specs.Answering.{sheet_text, sheet_next, most_text}
 use Rattle.stream.specs.declared.Fed.{Fed}
 use Rattle.stream.specs.Stream.{line_room, held_with, held_after_piece, line_after_piece, sheet_after_piece, piece_text, used_in_line, used_of, last_text, Holding, Taken, Feeds, Ends}
-use Rattle.stream.specs.Inside.{HeldIn, CharKept, CharsTaken, RunTaken, LineTaken}
+use Rattle.stream.specs.Inside.{CharKept, CharsTaken, RunTaken, LineTaken}
 use Rattle.stream.proofs.Pieces.{held_app, line_app, sheet_app, text_app, held_feed, line_feed_lem, sheet_feed, text_feed, used_feed, held_char, line_char, sheet_char, text_char, used_char, held_nil, line_nil, sheet_nil, text_nil, used_nil, used_room, used_stop, line_long}
 
 -- ---- room for an answer
-pub no_room : (len at : ℕ) → len < at → false ≡ leb (at + most_text) len
-no_room len at h = sym (lt-leb (at + most_text) len (omega arith))
-
-pub room_left : (len at : ℕ) → at ≤ len → leb most_text (len - at) ≡ leb (at + most_text) len
-room_left len at h =
+pub room_left : (len at : ℕ) → leb most_text (len - at) ≡ leb (at + most_text) len
+room_left len at =
     ⊎_elim
     (λ (g : len < at + most_text). rw (lt-leb most_text (len - at) (omega arith), lt-leb (at + most_text) len g))
     (λ (g : at + most_text ≤ len). rw (le-leb most_text (len - at) (omega arith), le-leb (at + most_text) len g))
@@ -85,9 +81,6 @@ module _ {l₀ h t l : List ℕ} {n : ℕ} (p : Holding l₀ h t l n) where
 
   pub same_length : length l ≡ length l₀
   same_length = ap length p.line_after ∙ line_long l₀ h t
-
-  pub still_held : length l₀ ≡ line_room → HeldIn l n
-  still_held e = (same_length ∙ e, omega (arith, held_long, length-take n l, same_length, e))
 
   module _ (u : List ℕ) where
     then_held : held_after_piece (take n l) u ≡ held_after_piece h (t ++ u)
@@ -170,7 +163,7 @@ pub chars_more : {l₀ h l l₁ : List ℕ} {n n₁ : ℕ} (input : List ℕ) (i
 chars_more input i g other q k = rw (add-one, take-suc input i 0 g) (char_more q (get_or input i 0) other k)
 
 pub run_ends : {l₀ h l : List ℕ} (input : List ℕ) (k n : ℕ) → k ≤ length input → CharsTaken l₀ h (take k input) l n
-    → (k < length input → get_or input k 0 ≡ 10) → RunTaken l₀ h input l (record { held = n; used = k })
+    → (k < length input → get_or input k 0 ≡ 10) → RunTaken l₀ h input l n k
 run_ends input k n f q e = record { used_part = f; chars = q; at_feed = e }
 
 -- ---- a line
@@ -204,20 +197,21 @@ cut_at : (input : List ℕ) (k b : ℕ) → k < length input → get_or input k 
 cut_at input k b g c = sym (rw (add-one, ← c, ← drop-cons input k 0 g) (take-append-drop k input))
 
 -- a line that ends
-pub line_ends : {s : Sheet} {l₀ h l o o₁ : List ℕ} {a : ℕ} {st : Stepped} (input : List ℕ) (k n : ℕ) → k < length input → get_or input k 0 ≡ 10
-    → CharsTaken l₀ h (take k input) l n → Answers s (spelled (take n l)) o a o₁ st
-    → LineTaken s l₀ h input o a o₁ l (record { sheet = st.sheet; held = 0; at = st.at; used = k + 1 })
-line_ends {s} {l₀} {h} {l} {o} {o₁} {a} {st} input k n g c q x =
+pub line_ends : {s : Sheet} {l₀ h l o o₁ : List ℕ} {s₁ : Sheet} {a a₁ : ℕ} (input : List ℕ) (k n : ℕ) → k < length input → get_or input k 0 ≡ 10
+    → CharsTaken l₀ h (take k input) l n → s₁ ≡ sheet_next s (spelled (take n l)) → Put o a (sheet_text s (spelled (take n l))) o₁ a₁
+    → length (sheet_text s (spelled (take n l))) ≤ most_text
+    → LineTaken s l₀ h input o a o₁ l (record { sheet = s₁; held = 0; at = a₁; used = k + 1 })
+line_ends {s} {l₀} {h} {l} {o} {o₁} {s₁} {a} {a₁} input k n g c q left put short =
     let e : take (k + 1) input ≡ take k input ++ (10 ∷ []) = rw (add-one, take-suc input k 0 g, c) in
     record {
-      taken = rw e (taken_join (chars_taken q s) (feed_taken q s x.left));
-      put = rw (e, end_text q s) x.put;
-      short = rw (e, end_text q s) x.short;
+      taken = rw e (taken_join (chars_taken q s) (feed_taken q s left));
+      put = rw (e, end_text q s) put;
+      short = rw (e, end_text q s) short;
       used_part = omega arith;
       used_some = λ z. omega arith;
       used_then =
           λ room.
-          rw (e, end_text q s, x.left)
+          rw (e, end_text q s, left)
           (ap (used_in_line room s h a) (cut_at input k 10 g c) ∙
           rw (length-take-le k input (omega arith)) at (end_uses q s room a (drop (k + 1) input)));
     }
@@ -253,7 +247,7 @@ pub record LinesTaken (s : Sheet) (l₀ h input o₀ : List ℕ) (a₀ : ℕ) (o
   pub none_cut : a₀ ≤ length o₀ → a₀ + length (piece_text s h (take i input)) ≤ length o₀
   pub used_then : used_of (length o₀) s h a₀ input ≡ i + used_of (length o₀) r.sheet (take r.held l) r.at (drop i input)
 
-pub lines_none : (s : Sheet) (l input o : List ℕ) (n a : ℕ)
+lines_none : (s : Sheet) (l input o : List ℕ) (n a : ℕ)
     → length input ≤ 18446744073709551615 → n ≤ length l → a ≤ 18446744073709551615 → length o ≤ 18446744073709551615
     → LinesTaken s l (take n l) input o a o l (record { sheet = s; held = n; at = a; used = 0 }) 0
 lines_none s l input o n a c h g k =
@@ -314,19 +308,6 @@ module _ {s : Sheet} {l₀ h o₀ o l o₁ l₁ : List ℕ} {a₀ : ℕ} {r r₁
             (q.used_then (length o)));
       }
 
-  -- one more line
-  pub lines_more : (b : Bool) → b ≡ leb (r.at + most_text) (length o) → not b ≡ false
-      → LineTaken r.sheet l (take r.held l) (take (length input - i) (drop i input)) o r.at o₁ l₁ r₁
-      → LinesTaken s l₀ h input o₀ a₀ o₁ l₁ r₁ (i + r₁.used)
-  lines_more b e f q =
-      rest_taken (leb-true (r.at + most_text) (length o) (sym e ∙ not-false b f)) (rw (rest_all input i) at q)
-
-  pub lines_further : i < length input → LineTaken r.sheet l (take r.held l) (take (length input - i) (drop i input)) o r.at o₁ l₁ r₁
-      → (0 < r₁.used) × (i + r₁.used ≤ length input)
-  lines_further f q =
-      let q₁ : LineTaken r.sheet l (take r.held l) (drop i input) o r.at o₁ l₁ r₁ = rw (rest_all input i) at q in
-      (q₁.used_some (omega (arith, f, length-drop i input)), omega (arith, f, q₁.used_part, length-drop i input))
-
 module _ {s : Sheet} {l₀ h o₀ o l : List ℕ} {a₀ : ℕ} {r : Fed} (input : List ℕ) (i : ℕ) (p : LinesTaken s l₀ h input o₀ a₀ o l r i) where
   feeds_so_far : ((i ≡ length input) ⊎ (length o₀ < r.at + most_text))
       → used_of (length o₀) r.sheet (take r.held l) r.at (drop i input) ≡ 0
@@ -342,20 +323,55 @@ module _ {s : Sheet} {l₀ h o₀ o l : List ℕ} {a₀ : ℕ} {r : Fed} (input 
       }
 
   -- to the end of the piece, or until there is no room for an answer
-  pub feeds_all : length input ≤ i → Feeds s l₀ h input o₀ a₀ o l (record { sheet = r.sheet; held = r.held; at = r.at; used = i })
+  feeds_all : length input ≤ i → Feeds s l₀ h input o₀ a₀ o l (record { sheet = r.sheet; held = r.held; at = r.at; used = i })
   feeds_all z =
       feeds_so_far
       (inl (omega (arith, z, p.used_part)))
       (rw (drop_of_length-le input z) (used_nil (length o₀) r.sheet (take r.held l) r.at))
 
-  pub feeds_some : (b : Bool) → b ≡ leb (r.at + most_text) (length o) → not b ≡ true
+  feeds_some : (b : Bool) → b ≡ leb (r.at + most_text) (length o) → b ≡ false
       → Feeds s l₀ h input o₀ a₀ o l (record { sheet = r.sheet; held = r.held; at = r.at; used = i })
   feeds_some b e f =
       let g : length o₀ < r.at + most_text =
-      omega (arith, leb-false (r.at + most_text) (length o) (sym e ∙ not-true b f), put_same p.put) in
+      omega (arith, leb-false (r.at + most_text) (length o) (sym e ∙ f), put_same p.put) in
       feeds_so_far
       (inr g)
       (used_stop (length o₀) r.sheet (take r.held l) r.at (drop i input) (lt-leb (r.at + most_text) (length o₀) g))
+
+-- ---- what is left of a piece, `rest`
+pub record RestLeft (s : Sheet) (l₀ h input o₀ : List ℕ) (a₀ : ℕ) (o l : List ℕ) (r : Fed) (rest : List ℕ) : Type 0 where
+  pub used : ℕ
+  pub rest_is : rest ≡ drop used input
+  pub lines : LinesTaken s l₀ h input o₀ a₀ o l r used
+
+pub rest_none : (s : Sheet) (l input o : List ℕ) (n a : ℕ)
+    → length input ≤ 18446744073709551615 → n ≤ length l → a ≤ 18446744073709551615 → length o ≤ 18446744073709551615
+    → RestLeft s l (take n l) input o a o l (record { sheet = s; held = n; at = a; used = 0 }) input
+rest_none s l input o n a c h g k = record { used = 0; rest_is = refl; lines = lines_none s l input o n a c h g k }
+
+module _ {s : Sheet} {l₀ h o₀ o l : List ℕ} {a₀ : ℕ} {r : Fed} (input rest : List ℕ) (p : RestLeft s l₀ h input o₀ a₀ o l r rest) where
+  used_is : p.used ≡ length input - length rest
+  used_is = omega (arith, p.lines.used_part, ap length p.rest_is, length-drop p.used input)
+
+  -- one more line
+  pub rest_more : {o₁ l₁ : List ℕ} {r₁ : Fed} (b : Bool) → b ≡ leb (r.at + most_text) (length o) → b ≡ true
+      → LineTaken r.sheet l (take r.held l) rest o r.at o₁ l₁ r₁ → RestLeft s l₀ h input o₀ a₀ o₁ l₁ r₁ (take (length rest - r₁.used) (drop r₁.used rest))
+  rest_more {o₁} {l₁} {r₁} b e f q =
+      record {
+        used = p.used + r₁.used;
+        rest_is = rest_all rest r₁.used ∙ rw (p.rest_is, drop-drop r₁.used p.used input);
+        lines = rest_taken input p.used p.lines (leb-true (r.at + most_text) (length o) (sym e ∙ f)) (rw p.rest_is at q);
+      }
+
+  -- to the end of the piece, or until there is no room for an answer
+  pub rest_ends : (b : Bool) → b ≡ eqb (length rest) 0 → b ≡ true → Feeds s l₀ h input o₀ a₀ o l (record { sheet = r.sheet; held = r.held; at = r.at; used = length input - length rest })
+  rest_ends b e f =
+      let z : length rest ≡ 0 = eqb-true (length rest) 0 (sym e ∙ f) in
+      rw (← used_is) (feeds_all input p.used p.lines (omega (arith, used_is, z)))
+
+  pub rest_stops : (b : Bool) → b ≡ leb (r.at + most_text) (length o) → b ≡ false
+      → Feeds s l₀ h input o₀ a₀ o l (record { sheet = r.sheet; held = r.held; at = r.at; used = length input - length rest })
+  rest_stops b e f = rw (← used_is) (feeds_some input p.used p.lines b e f)
 
 -- ---- of a list, no more is taken than it has
 pub take_least : (l : List ℕ) (n k : ℕ) → k ≡ min n (length l) → take n l ≡ take k l
@@ -389,9 +405,9 @@ module _ (l : List ℕ) (n k : ℕ) (e : k ≡ min n line_room) where
       → Ends s (take n l) o a o a
   last_none s o a z x y = record { put = rw (no_text_lem s z) (put_none o a x y); short = rw (no_text_lem s z) (omega arith) }
 
-  pub last_some : {s : Sheet} {o o₁ : List ℕ} {a : ℕ} {st : Stepped} → length l ≡ line_room → (k ≡ 0 → ⊥)
-      → Answers s (spelled (take k l)) o a o₁ st → Ends s (take n l) o a o₁ st.at
-  last_some {s} room f x = record { put = rw (some_text s room f) x.put; short = rw (some_text s room f) x.short }
+  pub last_some : {s : Sheet} {o o₁ : List ℕ} {a a₁ : ℕ} → length l ≡ line_room → (k ≡ 0 → ⊥)
+      → Put o a (sheet_text s (spelled (take k l))) o₁ a₁ → length (sheet_text s (spelled (take k l))) ≤ most_text → Ends s (take n l) o a o₁ a₁
+  last_some {s} room f p h = record { put = rw (some_text s room f) p; short = rw (some_text s room f) h }
 
 -- ---- feeding gets on: where the buffer has room for an answer from its start on, some of a piece is used
 pub progress : {s : Sheet} {l h t o o₁ l₁ : List ℕ} {r : Fed} → Feeds s l h t o 0 o₁ l₁ r → 0 < length t → most_text ≤ length o → 0 < r.used

@@ -5,12 +5,7 @@ use Rattle.text.specs.Put.{Put}
 use Rattle.sheet.specs.declared.Sheet.{Sheet}
 use Rattle.session.specs.Answering.{most_text}
 use Rattle.stream.specs.declared.Fed.{Fed}
-use Rattle.stream.specs.declared.Run.{Run}
-use Rattle.stream.specs.Stream.{line_room, held_with, sheet_after_piece, piece_text, used_in_line, used_of, Holding, Taken}
-
--- a line lent by `feed` or `last`, of which no more is held than it has
-abbrev pub HeldIn : List ℕ → ℕ → Type 0
-HeldIn line held = (length line ≡ line_room) × (held ≤ line_room)
+use Rattle.stream.specs.Stream.{held_with, sheet_after_piece, piece_text, used_in_line, used_of, Holding, Taken}
 
 -- one more character, `b`, is held
 pub record CharKept (line₀ : List ℕ) (held : ℕ) (b : ℕ) (line : List ℕ) (n : ℕ) : Type 0 where
@@ -26,11 +21,11 @@ pub record CharsTaken (line₀ h t line : List ℕ) (n : ℕ) : Type 0 where
   pub uses_all : (room at : ℕ) (s : Sheet) (u : List ℕ)
       → used_in_line room s h at (t ++ u) ≡ length t + used_in_line room s (take n line) at u
 
--- a run of a line's characters, up to its feed or the piece's end
-pub record RunTaken (line₀ h input line : List ℕ) (r : Run) : Type 0 where
-  pub used_part : r.used ≤ length input
-  pub chars : CharsTaken line₀ h (take r.used input) line r.held
-  pub at_feed : r.used < length input → get_or input r.used 0 ≡ 10
+-- a run of a line's characters, up to its feed or the piece's end: so many of the piece are used, and so many are then held
+pub record RunTaken (line₀ h input line : List ℕ) (held used : ℕ) : Type 0 where
+  pub used_part : used ≤ length input
+  pub chars : CharsTaken line₀ h (take used input) line held
+  pub at_feed : used < length input → get_or input used 0 ≡ 10
 
 -- one line of a piece, its feed included, or what there is of it; once begun it is used to its end, and the lines after it as there is
 -- room from the place after its answer on

@@ -2,14 +2,14 @@
 // yet is held in a lent line.
 #![tactic(auto)]
 
-ghost use Rattle.std.specs.Prelude.{◌≡◌, leb, take, ◌+◌};
+ghost use Rattle.std.specs.Prelude.{◌≡◌, ◌≤◌, leb, min, take, length, ◌+◌};
 ghost use Rattle.session.specs.Lines.{spelled};
-ghost use Rattle.session.specs.Answering.{most_text, Answers};
-ghost use Rattle.stream.specs.Stream.{Feeds, Ends};
-ghost use Rattle.stream.specs.Inside.{HeldIn, CharKept, RunTaken, LineTaken};
+ghost use Rattle.text.specs.Put.{Put};
+ghost use Rattle.session.specs.Answering.{most_text, sheet_text, sheet_next};
+ghost use Rattle.stream.specs.Stream.{Feeds, Ends, line_room};
 
-use session::Stepped;
 use sheet::Sheet;
+use text::Writer;
 
 // A lent line's places: one character more than a line may have, so that an overlong one is known.
 pub const LINE_ROOM: usize = 4097;
@@ -18,6 +18,7 @@ pub const LINE_ROOM: usize = 4097;
 const MOST_TEXT: usize = 2700;
 
 // A sheet after a piece: how much of a line is held, the place after the answers, and how much of the piece is used.
+// kept: the claim of streaming (FedCalls and OneOutcome) names these four
 #[derive(Clone, Copy)]
 pub struct Fed {
     pub sheet: Sheet,
@@ -26,124 +27,122 @@ pub struct Fed {
     pub used: usize,
 }
 
-// How much of a line is held after a run of its characters, and how many they are.
-#[derive(Clone, Copy)]
-struct Run {
-    held: usize,
-    used: usize,
-}
-
 // Tells whether any answer fits into a buffer from a place on.
+#[tactic(auto, using(crate::proofs::Laws::room_left))]
 fn room_for_answer(len: usize, at: usize) -> bool
     ensures { result ≡ leb (at + most_text) len }
 {
-    if len < at {
-        return false;
-    }
-    MOST_TEXT <= len - at
+    MOST_TEXT <= len.saturating_sub(at)
 }
 
-// Holds one more character of a line, if there is room for it.
-fn keep(line: &mut [u8], held: usize, b: u8) -> usize
-    requires { HeldIn line.old held }
-    ensures { CharKept line.old held b line.new result }
+// Answers a line: the sheet after it, and the place after the answer.
+fn answer(sheet: Sheet, line: &[u8], out: &mut [u8], at: usize) -> (Sheet, usize)
+    ensures left { result.0 ≡ sheet_next sheet (spelled line.now) }
+    ensures put { Put out.old at (sheet_text sheet (spelled line.now)) out.new result.1 }
+    ensures short { length (sheet_text sheet (spelled line.now)) ≤ most_text }
 {
-    if held >= line.len() {
-        return held;
-    }
-    line[held] = b;
-    held + 1
+    let mut writer = Writer::new(out, at);
+    let after = session::step(sheet, line, &mut writer);
+    (after, writer.at)
 }
 
-// Holds the characters of a piece up to the first line feed, or to its end.
-fn take_run(line: &mut [u8], held: usize, input: &[u8]) -> Run
-    requires { HeldIn line.old held }
-    ensures { RunTaken line.old (take held line.old) input.now line.new result }
-{
-    let mut n = held;
-    let mut i = 0;
-    while i < input.len() {
-        let b = input[i];
-        if b == 10 {
-            return Run { held: n, used: i };
-        }
-        n = keep(line, n, b);
-        i += 1;
-    }
-    Run { held: n, used: i }
-}
-
-// Answers the line that is held.
-fn answer(sheet: Sheet, line: &[u8], held: usize, out: &mut [u8], at: usize) -> Stepped
-    requires { HeldIn line.now held }
-    ensures { Answers sheet (spelled (take held line.now)) out.old at out.new result }
-{
-    session::step(sheet, &line[..held], out, at)
-}
-
-// Takes a piece up to its first line feed, which ends a line and has it answered, or to its end.
-fn feed_line(
-    sheet: Sheet,
-    line: &mut [u8],
+// A lent line, and how many characters at its front are held.
+#[derive(Drop)]
+struct HeldLine<'a> {
+    line: &'a mut [u8; LINE_ROOM],
     held: usize,
-    input: &[u8],
-    out: &mut [u8],
-    at: usize,
-) -> Fed
-    requires { HeldIn line.old held }
-    ensures { LineTaken sheet line.old (take held line.old) input.now out.old at out.new line.new result }
-{
-    let run = take_run(line, held, input);
-    let n = run.held;
-    if run.used < input.len() {
-        let used = run.used + 1;
-        let s = answer(sheet, line, n, out, at);
-        let after = s.sheet;
-        return Fed {
-            sheet: after,
-            held: 0,
-            at: s.at,
+    ghost whole: { length line.now ≡ line_room },
+    ghost in_line: { held ≤ line_room },
+}
+
+impl<'a> HeldLine<'a> {
+    ghost use Rattle.stream.specs.Inside.{CharKept, RunTaken, LineTaken};
+
+    // Where `held` is more than the line has, all of the line is held.
+    fn new(line: &'a mut [u8; LINE_ROOM], held: usize) -> HeldLine<'a>
+        ensures same_line { result.line.ghost_name ≡ line.entry.ghost_name }
+        ensures characters { result.line.now ≡ line.old }
+        ensures count { result.held ≡ min held line_room }
+    {
+        HeldLine {
+            line,
+            held: held.min(LINE_ROOM),
+        }
+    }
+
+    // Holds one more character, if there is room for it.
+    fn keep(&mut self, b: u8)
+        ensures same_line { self.new.line.ghost_name ≡ self.old.line.ghost_name }
+        ensures kept { CharKept self.old.line.now self.old.held b self.new.line.now self.new.held }
+    {
+        let held = self.held;
+        let is_full = held == LINE_ROOM;
+        if is_full {
+            return;
+        }
+        self.line[held] = b;
+        self.held = held + 1;
+    }
+
+    // Holds the characters of a piece up to the first line feed, or to its end: gives how many they are.
+    fn take_run(&mut self, input: &[u8]) -> usize
+        ensures same_line { self.new.line.ghost_name ≡ self.old.line.ghost_name }
+        ensures run { RunTaken self.old.line.now (take self.old.held self.old.line.now) input.now self.new.line.now self.new.held result }
+    {
+        for (i, &b) in input.iter().enumerate() {
+            if b == b'\n' {
+                return i;
+            }
+            self.keep(b);
+        }
+        input.len()
+    }
+
+    // Takes a piece up to its first line feed, which ends a line and has it answered, or to its end.
+    fn feed_line(&mut self, sheet: Sheet, input: &[u8], out: &mut [u8], at: usize) -> Fed
+        ensures same_line { self.new.line.ghost_name ≡ self.old.line.ghost_name }
+        ensures same_count { result.held ≡ self.new.held }
+        ensures taken { LineTaken sheet self.old.line.now (take self.old.held self.old.line.now) input.now out.old at out.new self.new.line.now result }
+    {
+        let used = self.take_run(input);
+        let held = self.held;
+        if used < input.len() {
+            let (sheet, at) = answer(sheet, &self.line[..held], out, at);
+            self.held = 0;
+            return Fed {
+                sheet,
+                held: self.held,
+                at,
+                used: used + 1,
+            };
+        }
+        Fed {
+            sheet,
+            held,
+            at,
             used,
-        };
-    }
-    Fed {
-        sheet,
-        held: n,
-        at,
-        used: run.used,
-    }
-}
-
-// Takes a piece line by line, while the buffer has room for an answer.
-fn feed_lines(
-    sheet: Sheet,
-    line: &mut [u8],
-    held: usize,
-    input: &[u8],
-    out: &mut [u8],
-    at: usize,
-) -> Fed
-    requires { HeldIn line.old held }
-    ensures { Feeds sheet line.old (take held line.old) input.now out.old at out.new line.new result }
-{
-    let mut fed = Fed {
-        sheet,
-        held,
-        at,
-        used: 0,
-    };
-    let mut i = 0;
-    while i < input.len() {
-        if !room_for_answer(out.len(), fed.at) {
-            fed.used = i;
-            return fed;
         }
-        let before = fed.sheet;
-        fed = feed_line(before, line, fed.held, &input[i..], out, fed.at);
-        i += fed.used;
     }
-    fed.used = i;
-    fed
+
+    // Takes a piece line by line, while the buffer has room for an answer.
+    fn feed_lines(&mut self, sheet: Sheet, input: &[u8], out: &mut [u8], at: usize) -> Fed
+        ensures same_line { self.new.line.ghost_name ≡ self.old.line.ghost_name }
+        ensures fed { Feeds sheet self.old.line.now (take self.old.held self.old.line.now) input.now out.old at out.new self.new.line.now result }
+    {
+        let mut fed = Fed {
+            sheet,
+            held: self.held,
+            at,
+            used: 0,
+        };
+        let mut rest = input;
+        while !rest.is_empty() && room_for_answer(out.len(), fed.at) {
+            fed = self.feed_line(fed.sheet, rest, out, fed.at);
+            rest = &rest[fed.used..];
+        }
+        fed.used = input.len() - rest.len();
+        fed
+    }
 }
 
 // Takes a piece of a script, of which a line's first `held` characters have come: answers each line that ends in it, at a place of the
@@ -159,19 +158,18 @@ pub fn feed(
 ) -> Fed
     ensures { Feeds sheet line.old (take held line.old) input.now out.old at out.new line.new result }
 {
-    let n = text::smaller(held, LINE_ROOM);
-    feed_lines(sheet, line, n, input, out, at)
+    let mut held_line = HeldLine::new(line, held);
+    held_line.feed_lines(sheet, input, out, at)
 }
 
 // The end of the input: answers the line that is held, if any.
 pub fn last(sheet: Sheet, line: &[u8; LINE_ROOM], held: usize, out: &mut [u8], at: usize) -> usize
     ensures { Ends sheet (take held line.now) out.old at out.new result }
 {
-    let n = text::smaller(held, LINE_ROOM);
+    let n = held.min(LINE_ROOM);
     let is_empty = n == 0;
     if is_empty {
         return at;
     }
-    let s = answer(sheet, line, n, out, at);
-    s.at
+    answer(sheet, &line[..n], out, at).1
 }

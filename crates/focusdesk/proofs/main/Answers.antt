@@ -4,11 +4,11 @@ use Rattle.focusdesk.proofs.Laws as laws
 use Rattle.focusdesk.proofs.main.Goals as goal
 
 pub loop-init : goal.loop-init
-loop-init c = ([], laws.running_none _ _ c.new-sheet.ensures, omega arith)
+loop-init c = ([], laws.running_none _ _ c.new.ensures, omega arith)
 
 pub loop-preserved : goal.loop-preserved
 loop-preserved c = (
   _,
-  laws.running_more _ _ _ _ _ _ _ c.loop.invariant.1 c.after_read-after.ensures c.if-not-after.false,
+  laws.running_more _ _ _ _ _ _ c.loop.invariant.1 c.after_read-after.ensures c.if-not-after.false,
   omega (arith, c.loop.invariant.2, c.after_read-after.auto.out),
 )

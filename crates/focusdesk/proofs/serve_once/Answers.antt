@@ -3,4 +3,4 @@ use Rattle.focusdesk.proofs.Laws as laws
 use Rattle.focusdesk.proofs.serve_once.Goals as goal
 
 pub returns : goal.returns
-returns g c = laws.once_fed _ _ c.flush-flushed.ensures c.requires c.feed-fed.ensures
+returns g c = laws.once_fed _ _ c.flush-handed.ensures c.requires c.feed-fed.ensures

@@ -1,17 +1,25 @@
--- `answer_all`: the loop's invariant is that the lines before place `a` are answered, and that the text left is that of the sheet over the
--- lines from there on. Assumes nothing.
+-- `answer_all`: one more line. Assumes nothing.
+use Rattle.std.proofs.Common.{rules, arith}
+use Rattle.std.proofs.lemmas.List.Sorted.{answers_always}
+use Rattle.text.specs.Put.{Writes}
+use Rattle.script.specs.Script.{script_text}
+use Rattle.script.proofs.Laws.{is_feed, first_piece}
 use Rattle.script.proofs.Answering as steps
-use native.Mathlib.Omega.{arith}
 use Rattle.script.proofs.answer_all.Goals as goal
 
-pub loop-a-init : goal.loop-a-init
-loop-a-init c = (omega arith, steps.all_start _ _ _ c.new-sheet.ensures (omega arith))
+pub loop-line-init : goal.loop-line-init
+loop-line-init c =
+    rw (c.into_iter-line-iterator.ensures.into_iter_gives, c.split_inclusive-line-items.ensures.rest)
+    (steps.all_start _ _ _ c.new-sheet.ensures (omega arith) (omega arith))
 
-pub slice_bounds-step-end : goal.slice_bounds-step-end
-slice_bounds-step-end c = steps.line_within c.args.script.now c.loop-a.a c.loop-a-test.true _ c.line_end-e.ensures
-
-pub loop-a-preserved : goal.loop-a-preserved
-loop-a-preserved c = (omega arith, steps.all_more _ _ c.loop-a-test.true _ c.line_end-e.ensures _ _ _ c.loop-a.invariant.1 c.step-s.ensures.left c.step-s.ensures.put c.line_after-a.ensures)
+pub loop-line-preserved : goal.loop-line-preserved
+loop-line-preserved c =
+    let s = c.in-Some.ensures.steps in
+    let p = s.1.2 is_feed (answers_always _ _ _ (λ f a r q h. search rules)) in
+    steps.all_more _ _ _ _ _ (first_piece _ _ _ _ s.1.0 s.0 s.1.1 s.2 p.1 c.without_feed.ensures) c.loop-line.invariant c.step-sheet.ensures
 
 pub returns : goal.returns
-returns c = steps.all_done _ _ _ c.loop-a-test.false c.loop-a.invariant.1
+returns c =
+    let p : Writes c.new-writer.result (script_text c.args.script.now) c.loop-line.writer =
+    steps.all_done _ _ c.in-None.ensures.steps.0 c.loop-line.invariant in
+    search rules

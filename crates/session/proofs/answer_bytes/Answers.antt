@@ -2,31 +2,32 @@
 use mathlib.Core.Path.{ap}
 use Rattle.session.proofs.Texts as texts
 use Rattle.journal.specs.SheetCalls.{after_edit, sheet_step}
+use Rattle.sheet.specs.Answer.{edit_refusal_number}
 use Rattle.session.proofs.answer_bytes.Goals as goal
 
-pub returns-in-Malformed : goal.returns-in-Malformed
-returns-in-Malformed c = texts.by_call _ _ _ _ c.in-Malformed.is c.call_of.ensures c.answer_malformed.ensures
+pub returns-in-None : goal.returns-in-None
+returns-in-None c = texts.by_none _ _ _ c.in-None.is c.call_of.ensures c.answer_malformed.ensures
 
-pub returns-in-Load : goal.returns-in-Load
-returns-in-Load c = texts.by_call _ _ _ _ c.in-Load.is c.call_of.ensures c.answer_load.ensures
+pub returns-in-Some-Load : goal.returns-in-Some-Load
+returns-in-Some-Load c = texts.by_call _ _ _ _ _ c.in-Some-Load.is c.in-Some-Load.field-0-is c.call_of.ensures c.answer_load.ensures
 
-pub returns-in-Cut : goal.returns-in-Cut
+pub returns-in-Some-Cut : goal.returns-in-Some-Cut
 unfolding sheet_step
-returns-in-Cut c = texts.by_call _ _ _ _ c.in-Cut.is c.call_of.ensures (texts.answered_edit _ _ c.cut.result (ap after_edit c.cut.ensures) c.after_edit.ensures)
+returns-in-Some-Cut c = texts.by_call _ _ _ _ _ c.in-Some-Cut.is c.in-Some-Cut.field-0-is c.call_of.ensures (texts.answered_edit _ _ _ (ap after_edit c.cut.ensures) (c.after.ensures.left edit_refusal_number) (c.after.ensures.written edit_refusal_number (λ why n h. h)))
 
-pub returns-in-Back : goal.returns-in-Back
+pub returns-in-Some-Back : goal.returns-in-Some-Back
 unfolding sheet_step
-returns-in-Back c = texts.by_call _ _ _ _ c.in-Back.is c.call_of.ensures (texts.answered_edit _ _ c.back.result (ap after_edit c.back.ensures) c.after_edit-in-Back.ensures)
+returns-in-Some-Back c = texts.by_call _ _ _ _ _ c.in-Some-Back.is c.in-Some-Back.field-0-is c.call_of.ensures (texts.answered_edit _ _ _ (ap after_edit c.back.ensures) (c.after-in-Some-Back.ensures.left edit_refusal_number) (c.after-in-Some-Back.ensures.written edit_refusal_number (λ why n h. h)))
 
-pub returns-in-ListPoints : goal.returns-in-ListPoints
-returns-in-ListPoints c = texts.by_call _ _ _ _ c.in-ListPoints.is c.call_of.ensures c.answer_list.ensures
+pub returns-in-Some-ListPoints : goal.returns-in-Some-ListPoints
+returns-in-Some-ListPoints c = texts.by_call _ _ _ _ _ c.in-Some-ListPoints.is c.in-Some-ListPoints.field-0-is c.call_of.ensures c.answer_list.ensures
 
-pub returns-in-Fit : goal.returns-in-Fit
-returns-in-Fit c = texts.by_call _ _ _ _ c.in-Fit.is c.call_of.ensures c.answer_fit.ensures
+pub returns-in-Some-Fit : goal.returns-in-Some-Fit
+returns-in-Some-Fit c = texts.by_call _ _ _ _ _ c.in-Some-Fit.is c.in-Some-Fit.field-0-is c.call_of.ensures c.answer_fit.ensures
 
-pub returns-in-Contents : goal.returns-in-Contents
-returns-in-Contents c = texts.by_call _ _ _ _ c.in-Contents.is c.call_of.ensures (rw c.contents_part.ensures at c.answer_contents.ensures)
+pub returns-in-Some-Contents : goal.returns-in-Some-Contents
+returns-in-Some-Contents c = texts.by_call _ _ _ _ _ c.in-Some-Contents.is c.in-Some-Contents.field-0-is c.call_of.ensures (rw c.contents_part.ensures at c.answer_contents.ensures)
 
-pub returns-in-Orient : goal.returns-in-Orient
+pub returns-in-Some-Orient : goal.returns-in-Some-Orient
 unfolding sheet_step
-returns-in-Orient c = texts.by_call _ _ _ _ c.in-Orient.is c.call_of.ensures (texts.answered_edit _ _ c.orient.result (ap after_edit c.orient.ensures) c.after_edit-in-Orient.ensures)
+returns-in-Some-Orient c = texts.by_call _ _ _ _ _ c.in-Some-Orient.is c.in-Some-Orient.field-0-is c.call_of.ensures (texts.answered_edit _ _ _ (ap after_edit c.orient.ensures) (c.after-in-Some-Orient.ensures.left edit_refusal_number) (c.after-in-Some-Orient.ensures.written edit_refusal_number (λ why n h. h)))

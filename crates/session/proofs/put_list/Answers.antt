@@ -2,5 +2,5 @@
 use Rattle.session.proofs.Texts as texts
 use Rattle.session.proofs.put_list.Goals as goal
 
-pub put_listing-requires : goal.put_listing-requires
-put_listing-requires c = texts.most_of_listed _ _ c.in-Listed.is c.requires
+pub returns-in-Err : goal.returns-in-Err
+returns-in-Err c = rw (c.in-Err.is, ← c.from.ensures) (texts.done_no _ c.args.words.now c.put_no.ensures)

@@ -3,4 +3,4 @@ use Rattle.session.proofs.Texts as texts
 use Rattle.session.proofs.put_listing.Goals as goal
 
 pub returns : goal.returns
-returns c = texts.listing_text _ _ _ c.head_numbers-head.ensures (c.requires.0) c.put_head-next.ensures c.put_points.ensures
+returns c = texts.listing_text c.args.l _ _ c.numbers.ensures c.args.l.counted c.put_head.ensures c.put_points.ensures
