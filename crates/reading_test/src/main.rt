@@ -3,16 +3,16 @@
 // byte longer: a line each. No contract can say what is printed: that is held to `stdout`.
 #![tactic(auto)]
 
-ghost use Rattle.std.specs.Prelude.{◌<◌, ◌≤◌, min, ◌≡◌, length, take};
-ghost use Rattle.std.specs.Io.{ReadsAtMost};
+ghost use Rattle.std.specs.Prelude.{◌<◌, ◌≤◌, ◌≡◌, length, take};
 
-use numbers::io::ByteOrder;
-use reading::afinfo::{AfInfo2, FocusRecord, NamedPoints};
-use reading::geometry::{OptionalSize, Size};
-use reading::ifd::{Block, Found};
-use reading::nikon::{ContentsAnswer, Crop, CropArea};
+use numbers::io::{ByteOrder, head};
+use reading::afinfo::{FocusRecord, NamedPoints, RecordRefusal};
+use reading::geometry::Size;
+use reading::ifd::{find_entry, parse_block};
+use reading::nikon::{AF_INFO2, CROP_AREA, CROP_HI_SPEED, CropArea, FOCUS_MODE};
+use reading::note::Note;
 use std::io;
-use std::io::Read;
+use test_records::input::fill;
 
 // ---- Lines of hexadecimal. That the bytes are right is held to `stdout`.
 
@@ -20,13 +20,7 @@ use std::io::Read;
 fn digit(c: u8) -> u8
     ensures { result < 16 }
 {
-    if c < b'A' { c % 16 } else { (c % 16 + 9) % 16 }
-}
-
-fn least(a: usize, b: usize) -> usize
-    ensures { result ≡ min a b }
-{
-    if a < b { a } else { b }
+    char::from(c).to_digit(16).unwrap_or(0) as u8
 }
 
 // Puts the bytes of a line at the front of the buffer, as many as fit, and answers how many they are.
@@ -34,285 +28,193 @@ fn decode(line: &[u8], out: &mut [u8]) -> usize
     ensures in_bounds { result ≤ length out.new }
     ensures prefix { result ≡ length (take result out.new) }
 {
-    let n = least(line.len() / 2, out.len());
-    let mut i: usize = 0;
-    while i < n {
-        out[i] = 16 * digit(line[2 * i]) + digit(line[2 * i + 1]);
-        i += 1;
+    let count = (line.len() / 2).min(out.len());
+    for (byte, digits) in out.iter_mut().zip(line.chunks_exact(2)) {
+        *byte = 16 * digit(digits[0]) + digit(digits[1]);
     }
-    n
+    count
 }
 
-// ---- Words, numbers and bytes to standard output. Their contracts say nothing: none can say what is written.
-
-fn text(rt: &impl Print, s: &str) -> io::Result<()> {
-    rt.print(s)
-}
-
-// A word and a number in decimal.
-fn number(rt: &impl Print, word: &str, n: u64) -> io::Result<()> {
-    print!(rt; "{word}{n}")
-}
-
-fn byte(rt: &impl Print, b: u8) -> io::Result<()> {
-    print!(rt; "{b:02x}")
-}
+// ---- What the readers answer for one block, as the parts of a line. No contract can say what is written.
 
 // A space and the bytes in hexadecimal, two digits each; nothing for no bytes.
 fn bytes(rt: &impl Print, s: &[u8]) -> io::Result<()> {
     if s.is_empty() {
         return Ok(());
     }
-    text(rt, " ")?;
+    print!(rt; " ")?;
     for b in s {
-        byte(rt, *b)?;
+        print!(rt; "{b:02x}")?;
     }
     Ok(())
 }
 
-// ---- What the readers answer for one block, as the parts of a line.
-
-fn order_name(rt: &impl Print, order: ByteOrder) -> io::Result<()> {
-    match order {
-        ByteOrder::Little => text(rt, "little"),
-        ByteOrder::Big => text(rt, "big"),
-    }
-}
-
 // The first kept entry of a tag: its type, its count and its value.
-fn entry(rt: &impl Print, block: &[u8], order: ByteOrder, tag: u16) -> io::Result<()> {
-    number(rt, " | ", tag as u64)?;
-    let found = reading::ifd::find_entry(block, order, tag);
-    if !reading::ifd::is_kept(found) {
-        return text(rt, " absent");
+fn entry(rt: &impl Print, note: Note<'_>, tag: u16) -> io::Result<()> {
+    print!(rt; " | {tag}")?;
+    let Some(entry) = find_entry(note.block, note.order, tag) else {
+        return print!(rt; " absent");
+    };
+    print!(rt; " type {}", entry.typ)?;
+    if entry.value.is_none() {
+        return print!(rt; " damaged");
     }
-    number(rt, " type ", reading::ifd::type_of(found) as u64)?;
-    if let Found::Damaged { typ: _ } = found {
-        return text(rt, " damaged");
-    }
-    number(rt, " count ", reading::ifd::count_of(found) as u64)?;
-    let value = reading::ifd::value_of(block, found);
-    number(rt, " bytes ", value.len() as u64)?;
+    let value = entry.value_in(note.block);
+    print!(rt; " count {} bytes {}", entry.count(), value.len())?;
     bytes(rt, value)
 }
 
-fn manual_focus(rt: &impl Print, block: &[u8], order: ByteOrder) -> io::Result<()> {
-    if reading::nikon::manual_focus(block, order) {
-        text(rt, " | manual")
-    } else {
-        text(rt, " | not manual")
+fn manual_focus(rt: &impl Print, note: Note<'_>) -> io::Result<()> {
+    let is_manual = reading::nikon::manual_focus(note.block, note.order);
+    print!(rt; " | {}", if is_manual { "manual" } else { "not manual" })
+}
+
+fn crop(rt: &impl Print, note: Note<'_>) -> io::Result<()> {
+    match reading::nikon::crop_hi_speed(note.block, note.order) {
+        Some(c) => print!(rt;
+            " | crop {} {} {} {} {} {} {}",
+            c.mode,
+            c.original.width,
+            c.original.height,
+            c.cropped.width,
+            c.cropped.height,
+            c.origin.x,
+            c.origin.y
+        ),
+        None => print!(rt; " | no crop"),
     }
 }
 
-fn size(rt: &impl Print, word: &str, width: u32, height: u32) -> io::Result<()> {
-    number(rt, word, width as u64)?;
-    number(rt, " ", height as u64)
-}
-
-fn crop(rt: &impl Print, block: &[u8], order: ByteOrder) -> io::Result<()> {
-    match reading::nikon::crop_hi_speed(block, order) {
-        Crop::Stated(c) => {
-            number(rt, " | crop ", c.mode as u64)?;
-            size(rt, " ", c.original.width, c.original.height)?;
-            size(rt, " ", c.cropped.width, c.cropped.height)?;
-            size(rt, " ", c.origin.x, c.origin.y)
-        }
-        Crop::NoCrop => text(rt, " | no crop"),
-    }
-}
-
-fn crop_area(rt: &impl Print, block: &[u8], order: ByteOrder, raw: OptionalSize) -> io::Result<()> {
-    match reading::nikon::crop_area(block, order, raw) {
-        CropArea::Window(s) => size(rt, " window ", s.width, s.height),
-        CropArea::Unusable => text(rt, " unusable"),
-        CropArea::Absent => text(rt, " absent"),
+fn crop_area(rt: &impl Print, note: Note<'_>, raw: Option<Size>) -> io::Result<()> {
+    match reading::nikon::crop_area(note.block, note.order, raw) {
+        CropArea::Window(s) => print!(rt; " window {} {}", s.width, s.height),
+        CropArea::Unusable => print!(rt; " unusable"),
+        CropArea::Absent => print!(rt; " absent"),
     }
 }
 
 // CropArea in raw data of 6016 by 4016, and without a raw size.
-fn crop_areas(rt: &impl Print, block: &[u8], order: ByteOrder) -> io::Result<()> {
-    text(rt, " | area")?;
+fn crop_areas(rt: &impl Print, note: Note<'_>) -> io::Result<()> {
     let raw = Size {
         width: 6016,
         height: 4016,
     };
-    crop_area(rt, block, order, OptionalSize::Given(raw))?;
-    text(rt, " without raw")?;
-    crop_area(rt, block, order, OptionalSize::Missing)
+    print!(rt; " | area")?;
+    crop_area(rt, note, Some(raw))?;
+    print!(rt; " without raw")?;
+    crop_area(rt, note, None)
 }
 
-fn names(rt: &impl Print, named: NamedPoints) -> io::Result<()> {
+fn names(rt: &impl Print, named: Option<NamedPoints>) -> io::Result<()> {
     match named {
-        NamedPoints::Named {
-            layout_code,
-            primary,
-            mask,
-        } => {
-            number(rt, " names ", layout_code as u64)?;
-            number(rt, " ", primary as u64)?;
-            number(rt, " ", mask)
-        }
-        NamedPoints::NoNames => text(rt, " no names"),
+        Some(
+            NamedPoints {
+                layout_code,
+                primary,
+                mask,
+            },
+        ) => print!(rt; " names {layout_code} {primary} {mask}"),
+        None => print!(rt; " no names"),
     }
 }
 
 fn focus_record(rt: &impl Print, r: FocusRecord) -> io::Result<()> {
-    size(rt, " | frame ", r.frame.width, r.frame.height)?;
-    size(rt, " center ", r.center.x, r.center.y)?;
-    size(rt, " area ", r.area.width, r.area.height)?;
-    let in_focus = r.in_focus;
-    number(
-        rt,
-        " focus ",
-        reading::focus::in_focus_number(in_focus) as u64,
+    print!(rt;
+        " | frame {} {} center {} {} area {} {} focus {} mode {}",
+        r.frame.width,
+        r.frame.height,
+        r.center.x,
+        r.center.y,
+        r.area.width,
+        r.area.height,
+        u32::from(r.in_focus),
+        u32::from(r.area_mode)
     )?;
-    let mode = r.area_mode;
-    number(rt, " mode ", reading::focus::mode_number(mode) as u64)?;
-    let named = r.named;
-    names(rt, named)
-}
-
-fn af_info2(rt: &impl Print, found: AfInfo2) -> io::Result<()> {
-    match found {
-        AfInfo2::Said(r) => focus_record(rt, r),
-        AfInfo2::BadRecord => text(rt, " | no 4"),
-        AfInfo2::NoRecord => text(rt, " | no 2"),
-    }
+    names(rt, r.named)
 }
 
 // The record, asked of the block's note.
-fn record(rt: &impl Print, block: &[u8], order: ByteOrder) -> io::Result<()> {
-    af_info2(rt, reading::note::af_info2_of(block, order))
-}
-
-fn tag(rt: &impl Print, n: u16) -> io::Result<()> {
-    number(rt, " ", n as u64)
-}
-
-// The tags, in all their places.
-fn contents(rt: &impl Print, block: &[u8]) -> io::Result<()> {
-    let contents = reading::nikon::contents(block);
-    let answer = contents.answer;
-    let list = contents.list;
-    match answer {
-        ContentsAnswer::Tags => text(rt, " | tags ")?,
-        ContentsAnswer::Unreadable => text(rt, " | no 1 ")?,
+fn record(rt: &impl Print, note: Note<'_>) -> io::Result<()> {
+    match note.record() {
+        Ok(r) => focus_record(rt, r),
+        Err(RecordRefusal::BadRecord) => print!(rt; " | no 4"),
+        Err(RecordRefusal::NoRecord) => print!(rt; " | no 2"),
     }
-    let tags = list.tags;
-    number(rt, "", list.count as u64)?;
-    tag(rt, tags[0])?;
-    tag(rt, tags[1])?;
-    tag(rt, tags[2])?;
-    tag(rt, tags[3])
+}
+
+// The tags, in all their places; of a block that cannot be read, places without one.
+fn contents(rt: &impl Print, block: &[u8]) -> io::Result<()> {
+    let Some(list) = reading::nikon::contents(block) else {
+        return print!(rt; " | no 1 0 0 0 0 0");
+    };
+    print!(rt; " | tags {}", list.count)?;
+    for tag in list.tags {
+        print!(rt; " {tag}")?;
+    }
+    Ok(())
 }
 
 // What every reader answers for a block that can be read.
-fn values(rt: &impl Print, block: &[u8], order: ByteOrder) -> io::Result<()> {
-    order_name(rt, order)?;
-    entry(rt, block, order, reading::nikon::FOCUS_MODE)?;
-    entry(rt, block, order, reading::nikon::CROP_HI_SPEED)?;
-    entry(rt, block, order, reading::nikon::CROP_AREA)?;
-    entry(rt, block, order, reading::nikon::AF_INFO2)?;
-    manual_focus(rt, block, order)?;
-    crop(rt, block, order)?;
-    crop_areas(rt, block, order)?;
-    record(rt, block, order)
-}
-
-fn report(rt: &impl Print, s: &[u8]) -> io::Result<()> {
-    match reading::ifd::parse_block(s) {
-        Block::Readable(order) => values(rt, s, order)?,
-        Block::Unreadable => text(rt, "no 1")?,
+fn values(rt: &impl Print, note: Note<'_>) -> io::Result<()> {
+    match note.order {
+        ByteOrder::Little => print!(rt; "little")?,
+        ByteOrder::Big => print!(rt; "big")?,
     }
-    contents(rt, s)
+    for tag in [FOCUS_MODE, CROP_HI_SPEED, CROP_AREA, AF_INFO2] {
+        entry(rt, note, tag)?;
+    }
+    manual_focus(rt, note)?;
+    crop(rt, note)?;
+    crop_areas(rt, note)?;
+    record(rt, note)
 }
 
-// A block that is one byte longer than a block may be.
-fn long_space() -> [u8; 1048577]
-    ensures { 1048577 ≡ length result }
+fn report(rt: &impl Print, block: &[u8]) -> io::Result<()> {
+    match parse_block(block) {
+        Some(order) => values(rt, Note::new(block, order))?,
+        None => print!(rt; "no 1")?,
+    }
+    contents(rt, block)
+}
+
+// So many zeros. A function apart, since the proof of its caller would count them one by one.
+fn zeros<const N: usize>() -> [u8; N]
+    ensures { length result ≡ N }
 {
-    [0; 1048577]
+    [0; N]
 }
 
-// The longest block with these bytes at its front, and the whole buffer as a block.
-fn report_in(rt: &impl Print, front: &[u8], space: &mut [u8]) -> io::Result<()> {
-    decode(front, space);
-    report(rt, numbers::io::head(space, 1048576))?;
-    text(rt, "\n")?;
-    report(rt, space)
-}
-
+// The longest block with these bytes at its front, and a block of one byte more.
 fn report_long(rt: &impl Print, front: &[u8]) -> io::Result<()> {
-    let mut space = long_space();
-    report_in(rt, front, &mut space)
+    let mut space = zeros::<1_048_577>();
+    decode(front, &mut space);
+    report(rt, head(&space, 1_048_576))?;
+    println!(rt;)?;
+    report(rt, &space)
 }
 
 // A block of the bytes of a line.
 fn report_short(rt: &impl Print, line: &[u8]) -> io::Result<()> {
-    let mut space = [0u8; 4096];
+    let mut space = [0; 4096];
     let n = decode(line, &mut space);
     report(rt, &space[..n])
 }
 
 // Answers one line.
 fn answer(rt: &impl Print, line: &[u8]) -> io::Result<()> {
-    let first = numbers::io::u8_at(line, 0);
-    if first == b'#' {
-        rt.write_all(line)?;
-    } else if first == b'+' {
-        report_long(rt, numbers::io::tail(line, 1))?;
-    } else {
-        report_short(rt, line)?;
+    match line {
+        [b'#', ..] => rt.write_all(line)?,
+        [b'+', front @ ..] => report_long(rt, front)?,
+        _ => report_short(rt, line)?,
     }
-    text(rt, "\n")
-}
-
-// Where the line that starts at `a` ends: at its feed, or at the input's end.
-fn line_end(input: &[u8], a: usize) -> usize
-    requires { a ≤ length input.now }
-    ensures { (a ≤ result) × (result ≤ length input.now) }
-{
-    let mut i = a;
-    while i < input.len() {
-        if input[i] == b'\n' {
-            return i;
-        }
-        i += 1;
-    }
-    i
-}
-
-// Answers each line.
-fn answer_all(rt: &impl Print, input: &[u8]) -> io::Result<()> {
-    let mut a: usize = 0;
-    while a < input.len() {
-        let e = line_end(input, a);
-        answer(rt, &input[a..e])?;
-        if e == input.len() {
-            return Ok(());
-        }
-        a = e + 1;
-    }
-    Ok(())
-}
-
-// Reads until the buffer is full or the input ends, and answers how many bytes are at the buffer's start.
-fn fill(from: &mut impl Read, buffer: &mut [u8]) -> io::Result<usize>
-    ensures { ReadsAtMost result buffer.new }
-{
-    let mut done = 0;
-    while done < buffer.len() {
-        let n = from.read(&mut buffer[done..])?;
-        if n == 0 {
-            break;
-        }
-        done += n;
-    }
-    Ok(done)
+    println!(rt;)
 }
 
 fn main(rt: HostRuntime) -> io::Result<()> {
-    let mut space = [0u8; 65536];
+    let mut space = [0; 65536];
     let n = fill(&mut rt.stdin(), &mut space)?;
-    answer_all(&rt, &space[..n])
+    for line in space[..n].split_inclusive(|&b| b == b'\n') {
+        answer(&rt, line.strip_suffix(b"\n").unwrap_or(line))?;
+    }
+    Ok(())
 }

@@ -6,220 +6,145 @@
 // holds i + 1 before a call. No contract can say what is printed: that is held to `stdout`.
 #![tactic(auto)]
 
-ghost use Rattle.std.specs.Prelude.{◌≡◌, length};
-
-use numbers::io::ByteOrder;
-use reading::geometry::{OptionalSize, Size};
-use sheet::listing::{ListAnswer, ListHead};
+use numbers::io::{head, tail, u8_at};
+use reading::geometry::Size;
+use sheet::head::ListHead;
+use sheet::listing::ListRefusal;
 use std::io;
-use std::io::{ErrorKind, Read};
-use workspace::{Checkpointed, EditedWorkspace, LoadedWorkspace, Workspace};
+use test_records::edit::Edit;
+use test_records::fields::size_at;
+use test_records::input::Records;
+use test_records::load::Load;
+use test_records::text::{Ended, Head};
+use workspace::Workspace;
 
-fn text(rt: &impl Print, s: &str) -> io::Result<()> {
-    rt.print(s)
-}
-
-// A word and a number in decimal.
-fn number(rt: &impl Print, word: &str, n: u32) -> io::Result<()> {
-    print!(rt; "{word}{n}")
-}
-
-// `ok`, or `no` and the number.
-fn print_number(rt: &impl Print, n: u32) -> io::Result<()> {
-    if n == 0 {
-        text(rt, "ok\n")
-    } else {
-        number(rt, "no ", n)?;
-        text(rt, "\n")
-    }
-}
-
-fn after_edit(rt: &impl Print, r: EditedWorkspace) -> io::Result<Workspace> {
-    let answer = r.answer;
-    print_number(rt, sheet::edits::edit_number(answer))?;
-    Ok(r.workspace)
-}
-
-fn after_load(rt: &impl Print, r: LoadedWorkspace) -> io::Result<Workspace> {
-    let answer = r.answer;
-    print_number(rt, placing::load::load_number(answer))?;
-    Ok(r.workspace)
-}
-
-fn after_checkpoint(rt: &impl Print, r: Checkpointed) -> io::Result<Workspace> {
-    let answer = r.answer;
-    print_number(rt, workspace::checkpoint_number(answer))?;
-    Ok(r.workspace)
-}
-
-fn print_head(rt: &impl Print, l: ListHead) -> io::Result<()> {
-    let frame = l.frame;
-    let mode = l.mode;
-    let origin = l.origin;
-    number(rt, "frame ", frame.width)?;
-    number(rt, " ", frame.height)?;
-    number(rt, " points ", (l.count % 64) as u32)?;
-    number(rt, " primary ", (l.index % 64) as u32)?;
-    number(rt, " mode ", reading::focus::mode_number(mode))?;
-    number(rt, " origin ", placing::load::origin_number(origin))
-}
-
-fn print_list(rt: &impl Print, a: ListAnswer) -> io::Result<()> {
-    match a {
-        ListAnswer::Listed(l) => print_head(rt, l),
-        _ => number(rt, "no ", sheet::listing::list_number(a)),
-    }
-}
-
-// The buffer's numbers, on the answer's line.
-fn print_buffer(rt: &impl Print, out: &[u32]) -> io::Result<()> {
-    text(rt, " |")?;
-    for n in out {
-        number(rt, " ", *n)?;
-    }
-    text(rt, "\n")
-}
-
-// 256 places, of which place i holds i + 1.
-fn places() -> [u32; 256]
-    ensures { 256 ≡ length result }
-{
-    let mut p = [0u32; 256];
-    for i in 0..256usize {
-        p[i] = (i + 1) as u32;
-    }
-    p
-}
-
-// The 32-bit number at a place.
-fn number_at(s: &[u8], at: usize) -> u32 {
-    numbers::io::u32_of(numbers::io::tail(s, at), ByteOrder::Big)
-}
-
-fn size_at(s: &[u8], at: usize) -> Size {
-    let width = number_at(s, at);
-    let height = number_at(numbers::io::tail(s, at), 4);
-    Size { width, height }
-}
-
-fn given_at(s: &[u8], at: usize, given: bool) -> OptionalSize {
-    if !given {
-        return OptionalSize::Missing;
-    }
-    OptionalSize::Given(size_at(s, at))
-}
-
-fn load(rt: &impl Print, workspace: Workspace, call: &[u8]) -> io::Result<Workspace> {
-    let flags = numbers::io::u8_at(call, 1);
-    let raw = given_at(call, 2, flags % 2 == 1);
-    let picture = given_at(call, 10, flags / 2 % 2 == 1);
-    let model_len = numbers::io::u8_at(call, 18) as usize;
-    let block_len = numbers::io::u16_of(numbers::io::tail(call, 19), ByteOrder::Big) as usize;
-    let rest = numbers::io::tail(call, 21);
-    let model = numbers::io::head(rest, model_len);
-    let block = numbers::io::head(numbers::io::tail(rest, model_len), block_len);
-    after_load(rt, workspace.load(block, raw, picture, model))
-}
-
-fn cut(rt: &impl Print, workspace: Workspace, call: &[u8]) -> io::Result<Workspace> {
-    let left = number_at(call, 1);
-    let top = number_at(call, 5);
-    let width = number_at(call, 9);
-    let height = number_at(call, 13);
-    after_edit(rt, workspace.cut(left, top, width, height))
-}
-
-fn orient(rt: &impl Print, workspace: Workspace, call: &[u8]) -> io::Result<Workspace> {
-    let number = numbers::io::u8_at(call, 1) as u32;
-    after_edit(rt, workspace.orient(number))
+// A call with what it takes.
+#[derive(Clone, Copy, PartialEq, Eq, Debug)]
+enum Call<'a> {
+    Load(Load<'a>),
+    Edit(Edit),
+    Back,
+    List { places: u8 },
+    Fit { size: Size, places: u8 },
+    Keep(&'a [u8]),
+    Return(&'a [u8]),
 }
 
 // The name of a keep or a return.
-fn name_in<'a>(call: &'a [u8]) -> &'a [u8] {
-    let len = numbers::io::u8_at(call, 1) as usize;
-    numbers::io::head(numbers::io::tail(call, 2), len)
+fn name_in(taken: &[u8]) -> &[u8] {
+    head(tail(taken, 1), usize::from(u8_at(taken, 0)))
 }
 
-fn list_into(rt: &impl Print, workspace: Workspace, out: &mut [u32]) -> io::Result<()> {
-    print_list(rt, workspace.list(out))?;
-    print_buffer(rt, out)
-}
-
-fn fit_into(rt: &impl Print, workspace: Workspace, size: Size, out: &mut [u32]) -> io::Result<()> {
-    print_list(rt, workspace.fit(size, out))?;
-    print_buffer(rt, out)
-}
-
-fn list(rt: &impl Print, workspace: Workspace, call: &[u8], out: &mut [u32]) -> io::Result<()>
-    requires { length out.old ≡ 256 }
-{
-    let n = numbers::io::u8_at(call, 1) as usize;
-    list_into(rt, workspace, &mut out[..n])
-}
-
-fn fit(rt: &impl Print, workspace: Workspace, call: &[u8], out: &mut [u32]) -> io::Result<()>
-    requires { length out.old ≡ 256 }
-{
-    let n = numbers::io::u8_at(call, 9) as usize;
-    let size = size_at(call, 1);
-    fit_into(rt, workspace, size, &mut out[..n])
-}
-
-// A list or a fit on a buffer of its own.
-fn show(rt: &impl Print, workspace: Workspace, call: &[u8], code: u8) -> io::Result<()> {
-    let mut space = places();
-    let out: &mut [u32] = &mut space;
-    if code == 6 {
-        list(rt, workspace, call, out)
-    } else {
-        fit(rt, workspace, call, out)
+// The call in a record.
+fn call_in(record: &[u8]) -> Call<'_> {
+    let taken = tail(record, 1);
+    match u8_at(record, 0) {
+        1 => Call::Load(Load::of(taken)),
+        2 | 9 => Call::Edit(Edit::of(record)),
+        5 => Call::Back,
+        6 => Call::List {
+            places: u8_at(taken, 0),
+        },
+        10 => Call::Keep(name_in(taken)),
+        11 => Call::Return(name_in(taken)),
+        _ => Call::Fit {
+            size: size_at(taken, 0),
+            places: u8_at(taken, 8),
+        },
     }
+}
+
+// What a call ended with: gives the workspace that it leaves, which is the one before where it was refused.
+fn after<E: Copy>(
+    rt: &impl Print,
+    before: Workspace,
+    ended: Result<Workspace, E>,
+) -> io::Result<Workspace>
+where
+    u32: From<E>,
+{
+    match ended {
+        Ok(workspace) => {
+            println!(rt; "{}", Ended(None))?;
+            Ok(workspace)
+        }
+        Err(why) => {
+            println!(rt; "{}", Ended(Some(u32::from(why))))?;
+            Ok(before)
+        }
+    }
+}
+
+fn print_listed(rt: &impl Print, answer: Result<ListHead, ListRefusal>) -> io::Result<()> {
+    match answer {
+        Ok(l) => {
+            let head = Head {
+                frame: l.frame,
+                points: l.count,
+                primary: l.index,
+                mode: u32::from(l.mode),
+                origin: u32::from(l.origin),
+            };
+            print!(rt; "{head}")
+        }
+        Err(why) => print!(rt; "no {}", u32::from(why)),
+    }
+}
+
+// What a list or a fit answered, and the buffer's numbers.
+fn print_list(
+    rt: &impl Print,
+    answer: Result<ListHead, ListRefusal>,
+    buffer: &[u32],
+) -> io::Result<()> {
+    print_listed(rt, answer)?;
+    print!(rt; " |")?;
+    for n in buffer {
+        print!(rt; " {n}")?;
+    }
+    println!(rt;)
+}
+
+// A buffer of which place i holds i + 1.
+fn counted() -> [u32; 255] {
+    let mut buffer = [0; 255];
+    for (place, number) in buffer.iter_mut().zip(1..) {
+        *place = number;
+    }
+    buffer
 }
 
 // Answers one call, and gives the workspace that it leaves.
-fn answer(rt: &impl Print, workspace: Workspace, call: &[u8]) -> io::Result<Workspace> {
-    let code = numbers::io::u8_at(call, 0);
-    match code {
-        1 => load(rt, workspace, call),
-        2 => cut(rt, workspace, call),
-        5 => after_edit(rt, workspace.back()),
-        9 => orient(rt, workspace, call),
-        10 => after_checkpoint(rt, workspace.keep(name_in(call))),
-        11 => after_checkpoint(rt, workspace.return_to(name_in(call))),
-        _ => {
-            show(rt, workspace, call, code)?;
+fn answer(rt: &impl Print, workspace: Workspace, call: Call<'_>) -> io::Result<Workspace> {
+    match call {
+        Call::Load(l) => {
+            let loaded = workspace.load(l.block, l.raw, l.picture, l.model);
+            after(rt, workspace, loaded)
+        }
+        Call::Edit(Edit::Orient(number)) => after(rt, workspace, workspace.orient(number)),
+        Call::Edit(Edit::Cut(to)) => after(rt, workspace, workspace.cut(to)),
+        Call::Back => after(rt, workspace, workspace.back()),
+        Call::List { places } => {
+            let mut buffer = counted();
+            let out = &mut buffer[..usize::from(places)];
+            print_list(rt, workspace.list(out), out)?;
             Ok(workspace)
         }
-    }
-}
-
-fn space() -> [u8; 512]
-    ensures { 512 ≡ length result }
-{
-    [0; 512]
-}
-
-// Whether there is one more call: reads it. The start of one that the input's end cuts off is none.
-fn is_read(from: &mut impl Read, call: &mut [u8]) -> io::Result<bool> {
-    match from.read_exact(call) {
-        Ok(()) => Ok(true),
-        Err(e) => {
-            if e.kind() == ErrorKind::UnexpectedEof {
-                return Ok(false);
-            }
-            Err(e)
+        Call::Fit { size, places } => {
+            let mut buffer = counted();
+            let out = &mut buffer[..usize::from(places)];
+            print_list(rt, workspace.fit(size, out), out)?;
+            Ok(workspace)
         }
+        Call::Keep(name) => after(rt, workspace, workspace.keep(name)),
+        Call::Return(name) => after(rt, workspace, workspace.return_to(name)),
     }
 }
 
 fn main(rt: HostRuntime) -> io::Result<()> {
-    let mut call = space();
     let mut workspace = Workspace::new();
-    for _ in 0..u64::MAX {
-        if !is_read(&mut rt.stdin(), &mut call)? {
-            return Ok(());
-        }
-        workspace = answer(&rt, workspace, &call)?;
+    for record in Records::<_, 512>::new(&mut rt.stdin()) {
+        workspace = answer(&rt, workspace, call_in(&record?))?;
     }
     Ok(())
 }
