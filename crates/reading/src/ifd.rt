@@ -88,11 +88,12 @@ pub fn parse_block(block: &[u8]) -> Option<ByteOrder>
     None
 }
 
-// The 16-bit number at `at`.
+// The 16-bit number at `at`, which lies inside the block: read where it lies, without a second test of bounds.
 fn u16_at(block: &[u8], at: usize, order: ByteOrder) -> u16
+    requires { at + 2 ≤ length block.now }
     ensures { result ≡ u16_of order (drop at block.now) }
 {
-    numbers::io::u16_of(numbers::io::tail(block, at), order)
+    numbers::io::joined_bytes(order, block[at], block[at + 1])
 }
 
 // kept: `at + 12 ≤ length` in four private contracts below; the entry's bytes in its place would lose where it stands, which its value
