@@ -148,10 +148,9 @@ impl Sheet {
         requires { self.row.count < 64 }
         ensures { result ≡ add_edit self edit }
     {
-        Sheet {
-            row: self.row.joined_by(edit),
-            ..self
-        }
+        let mut sheet = self;
+        sheet.row.join(edit);
+        sheet
     }
 
     // The sheet under the orientation of a number.
@@ -195,22 +194,19 @@ impl Sheet {
             .count
             .checked_sub(1)
             .ok_or(EditRefusal::NothingStands)?;
-        Ok(Sheet {
-            row: Row { count, ..self.row },
-            ..self
-        })
+        let mut sheet = self;
+        sheet.row.count = count;
+        Ok(sheet)
     }
 }
 
 impl Row {
-    // The row with one more edit behind those that stand.
-    fn joined_by(self, edit: Edit) -> Row
-        requires { self.count < 64 }
-        ensures { result ≡ joined_by self edit }
+    // One more edit joins, behind those that stand.
+    fn join(&mut self, edit: Edit)
+        requires { self.old.count < 64 }
+        ensures { self.new ≡ joined_by self.old edit }
     {
-        let mut row = self;
-        row.edits[self.count] = edit;
-        row.count += 1;
-        row
+        self.edits[self.count] = edit;
+        self.count += 1;
     }
 }

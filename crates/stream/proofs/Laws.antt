@@ -2,20 +2,25 @@
 -- taken as the one piece that they make up (`taken_join`); while there is room for an answer the text of a line finds room
 -- (`rest_more`), so that no answer is cut, and else no line is begun (`rest_stops`); and feeding gets on where the buffer has room for
 -- one answer (`progress`). Assumes nothing.
-use Prim.Native.Nat.{ℕ, ◌+◌, ◌-◌, ◌<◌, ◌≤◌, min}
+use Prim.Native.Nat.{ℕ, zero, suc, ◌+◌, ◌-◌, ◌<◌, ◌≤◌, min}
 use mathlib.Core.Path.{◌≡◌, refl, sym, ap, ◌∙◌}
-use mathlib.Core.Bool.{Bool, true, false}
+use mathlib.Core.Bool.{Bool, true, false, not, false≢true}
 use mathlib.Core.List.{List, [], ◌∷◌, ◌++◌, append-nil, append_assoc}
 use mathlib.Core.Logic.{⊎_elim, ◌⊎◌, inl, inr}
 use lib.Dec.{eqb, leb}
 use lib.ListN.{length, take, drop, get_or, set, length-append, length-drop, length-set, take-append-drop, drop_of_length-le}
-use lib.Seq.{set_out, take-suc, take_all, take-add, take-suc-set, take-append-le, length-take-le, drop-cons, drop-drop}
+use lib.Seq.{sets, length-sets, set_out, take-suc, take_all, take-add, take-suc-set, take-append-le, length-take-le, drop-cons, drop-drop}
 use native.Mathlib.Omega.{arith}
 use native.Mathlib.Nat.{add-zero, zero-add, add_assoc}
 use native.Mathlib.Numerals.{add-one}
-use borrow.Author.Tests.{eqb-true, ne_eqb, leb-true, leb-false, le-leb, lt-leb}
+use borrow.Author.Tests.{eqb-true, ne_eqb, leb-true, leb-false, le-leb, lt-leb, lt-ltb, le-ltb}
 use Rattle.text.specs.Put.{Put}
-use Rattle.laws.proofs.Tests.{by_order}
+use Rattle.std.specs.Bool.{◌==◌}
+use Rattle.std.specs.List.{position, position_or_len}
+use Rattle.std.specs.Option.{unwrap_or}
+use Rattle.std.proofs.lemmas.List.Sums.{prefix_len-le-length, prefix_len_passes, prefix_len_stops}
+use Rattle.laws.proofs.Tests.{by_bool, by_order}
+use Rattle.laws.proofs.Lists.{sets_append}
 use Rattle.text.proofs.Laws.{put_none, put_same, put_room, join}
 use Rattle.sheet.specs.declared.Sheet.{Sheet}
 use Rattle.session.specs.Lines.{spelled}
@@ -165,6 +170,75 @@ chars_more input i g other q k = rw (add-one, take-suc input i 0 g) (char_more q
 pub run_ends : {l₀ h l : List ℕ} (input : List ℕ) (k n : ℕ) → k ≤ length input → CharsTaken l₀ h (take k input) l n
     → (k < length input → get_or input k 0 ≡ 10) → RunTaken l₀ h input l n k
 run_ends input k n f q e = record { used_part = f; chars = q; at_feed = e }
+
+-- a run of characters, none of them its feed: the line takes as many as there is room for
+module _ (l input : List ℕ) (n : ℕ) (e : length l ≡ line_room) (h : n ≤ line_room) where
+  stored_on : (i : ℕ) → i < length input → set (sets l n (take i input)) (n + i) (get_or input i 0) ≡ sets l n (take (suc i) input)
+  stored_on i g =
+      let a : sets (sets l n (take i input)) (n + length (take i input)) (get_or input i 0 ∷ []) ≡ sets l n (take i input ++ (get_or input i 0 ∷ [])) = sets_append (take i input) (get_or input i 0 ∷ []) l n in
+      rw (length-take-le i input (omega arith)) at a ∙ rw (take-suc input i 0 g)
+
+  run_chars : (i : ℕ) → i ≤ length input → ((k : ℕ) → k < i → get_or input k 0 ≡ 10 → ⊥)
+      → CharsTaken l (take n l) (take i input) (sets l n (take (min i (line_room - n)) input)) (n + min i (line_room - n))
+  run_chars zero f other =
+      let z : min 0 (line_room - n) ≡ 0 = omega arith in
+      rw (z, add-zero n) (chars_none l n (omega (arith, e)))
+  run_chars (suc i) f other =
+      let q = run_chars i (omega arith) (λ k g. other k (omega arith)) in
+      let s : suc i ≡ i + 1 = omega arith in
+      ⊎_elim
+      (λ (g : i < line_room - n).
+      let m : min i (line_room - n) ≡ i = omega arith in
+      let m₁ : min (suc i) (line_room - n) ≡ suc i = omega arith in
+      let w : n + (i + 1) ≡ (n + i) + 1 = omega arith in
+      let k = char_stored (sets l n (take i input)) (n + i) (get_or input i 0) (length-sets l n (take i input) ∙ e) (omega (arith, e, length-sets l n (take i input))) in
+      rw (m₁, ← stored_on i (omega arith), s, w) (chars_more input i (omega arith) (other i (omega arith)) (rw m at q) k))
+      (λ (g : line_room - n ≤ i).
+      let m : min i (line_room - n) ≡ line_room - n = omega arith in
+      let m₁ : min (suc i) (line_room - n) ≡ line_room - n = omega arith in
+      let k = char_dropped (sets l n (take (line_room - n) input)) (n + (line_room - n)) (get_or input i 0) (length-sets l n (take (line_room - n) input) ∙ e) (omega (arith, e, length-sets l n (take (line_room - n) input))) (omega arith) in
+      rw (m₁, s) (chars_more input i (omega arith) (other i (omega arith)) (rw m at q) k))
+      (by_order i (line_room - n))
+
+-- up to the first feed of a piece, or to its end
+module _ (input : List ℕ) where
+  abbrev feed_place : ℕ
+  feed_place = position_or_len (λ (b : ℕ). b == 10) input
+
+  feed_room : feed_place ≤ length input
+  feed_room = prefix_len-le-length (λ (b : ℕ). not (b == 10)) input
+
+  feed_found : unwrap_or (position (λ (b : ℕ). b == 10) input) (length input) ≡ feed_place
+  feed_found =
+      ⊎_elim
+      (λ (g : feed_place < length input). rw (lt-ltb feed_place (length input) g))
+      (λ (g : length input ≤ feed_place). rw (le-ltb feed_place (length input) g) (omega (arith, feed_room)))
+      (by_order feed_place (length input))
+
+  no_feed_before : (k : ℕ) → k < feed_place → get_or input k 0 ≡ 10 → ⊥
+  no_feed_before k g z =
+      let q = prefix_len_passes (λ (b : ℕ). not (b == 10)) input k 0 g in
+      absurd (false≢true (rw z at q))
+
+  feed_there : feed_place < length input → get_or input feed_place 0 ≡ 10
+  feed_there g =
+      let q = prefix_len_stops (λ (b : ℕ). not (b == 10)) input 0 g in
+      ⊎_elim
+      (λ (b : (get_or input feed_place 0 == 10) ≡ true). eqb-true (get_or input feed_place 0) 10 b)
+      (λ (b : (get_or input feed_place 0 == 10) ≡ false). absurd (false≢true (sym (rw b at q))))
+      (by_bool (get_or input feed_place 0 == 10))
+
+  pub feed_within : (u : ℕ) → u ≡ unwrap_or (position (λ (b : ℕ). b == 10) input) (length input) → u ≤ length input
+  feed_within u p = omega (arith, p, feed_found, feed_room)
+
+pub run_taken : (l input : List ℕ) (n k u : ℕ) → length l ≡ line_room → n ≤ line_room
+    → u ≡ unwrap_or (position (λ (b : ℕ). b == 10) input) (length input) → k ≡ min u (line_room - n)
+    → RunTaken l (take n l) input (sets l n (take k input)) (n + k) u
+run_taken l input n k u e h p r =
+    let f : u ≡ feed_place input = p ∙ feed_found input in
+    rw (r, f)
+    (run_ends input (feed_place input) (n + min (feed_place input) (line_room - n)) (feed_room input)
+    (run_chars l input n e h (feed_place input) (feed_room input) (no_feed_before input)) (feed_there input))
 
 -- ---- a line
 module _ {l₀ h t l : List ℕ} {n : ℕ} (q : CharsTaken l₀ h t l n) (s : Sheet) where

@@ -2,7 +2,9 @@
 // yet is held in a lent line.
 #![tactic(auto)]
 
-ghost use Rattle.std.specs.Prelude.{◌≡◌, ◌≤◌, leb, min, take, length, ◌+◌};
+ghost use Rattle.std.specs.Prelude.{ℕ, ◌≡◌, ◌≤◌, ◌==◌, leb, min, take, length, ◌+◌};
+ghost use Rattle.std.specs.List.{position};
+ghost use Rattle.std.proofs.lemmas.List.Edits.{sets};
 ghost use Rattle.session.specs.Lines.{spelled};
 ghost use Rattle.text.specs.Put.{Put};
 ghost use Rattle.session.specs.Answering.{most_text, sheet_text, sheet_next};
@@ -46,6 +48,21 @@ fn answer(sheet: Sheet, line: &[u8], out: &mut [u8], at: usize) -> (Sheet, usize
     (after, writer.at)
 }
 
+// Where the first line feed is, if there is one.
+fn first_feed(input: &[u8]) -> Option<usize>
+    ensures { result ≡ position (λ (b : ℕ). b == 10) input.now }
+{
+    input.iter().position(|&b| b == b'\n')
+}
+
+// Puts characters into a line from a place on.
+fn put_run(line: &mut [u8; LINE_ROOM], at: usize, run: &[u8])
+    requires { at + length run.now ≤ length line.old }
+    ensures { line.new ≡ sets line.old at run.now }
+{
+    line[at..at + run.len()].copy_from_slice(run);
+}
+
 // A lent line, and how many characters at its front are held.
 #[derive(Drop)]
 struct HeldLine<'a> {
@@ -56,7 +73,7 @@ struct HeldLine<'a> {
 }
 
 impl<'a> HeldLine<'a> {
-    ghost use Rattle.stream.specs.Inside.{CharKept, RunTaken, LineTaken};
+    ghost use Rattle.stream.specs.Inside.{RunTaken, LineTaken};
 
     // Where `held` is more than the line has, all of the line is held.
     fn new(line: &'a mut [u8; LINE_ROOM], held: usize) -> HeldLine<'a>
@@ -70,32 +87,17 @@ impl<'a> HeldLine<'a> {
         }
     }
 
-    // Holds one more character, if there is room for it.
-    fn keep(&mut self, b: u8)
-        ensures same_line { self.new.line.ghost_name ≡ self.old.line.ghost_name }
-        ensures kept { CharKept self.old.line.now self.old.held b self.new.line.now self.new.held }
-    {
-        let held = self.held;
-        let is_full = held == LINE_ROOM;
-        if is_full {
-            return;
-        }
-        self.line[held] = b;
-        self.held = held + 1;
-    }
-
-    // Holds the characters of a piece up to the first line feed, or to its end: gives how many they are.
+    // Holds the characters of a piece up to the first line feed, or to its end, as many as there is room for: gives how many they are.
     fn take_run(&mut self, input: &[u8]) -> usize
         ensures same_line { self.new.line.ghost_name ≡ self.old.line.ghost_name }
         ensures run { RunTaken self.old.line.now (take self.old.held self.old.line.now) input.now self.new.line.now self.new.held result }
     {
-        for (i, &b) in input.iter().enumerate() {
-            if b == b'\n' {
-                return i;
-            }
-            self.keep(b);
-        }
-        input.len()
+        let used = first_feed(input).unwrap_or(input.len());
+        let held = self.held;
+        let kept = used.min(LINE_ROOM - held);
+        put_run(self.line, held, &input[..kept]);
+        self.held = held + kept;
+        used
     }
 
     // Takes a piece up to its first line feed, which ends a line and has it answered, or to its end.

@@ -2,14 +2,9 @@
 #![tactic(auto)]
 
 ghost use Rattle.std.specs.Prelude.{◌<◌, ◌^◌, ◌≡◌, [], ◌∷◌, ◌+◌, length};
-ghost use Rattle.text.specs.Number.{digits_of, last_digit, pair};
+ghost use Rattle.text.specs.Number.{digits_of, pair};
 
-// The character of the last digit of a number.
-fn last_digit(n: u32) -> u8
-    ensures { result ≡ last_digit n }
-{
-    b'0' + (n % 10) as u8
-}
+mod place; // place.rt: bytes and numbers at a place of a buffer
 
 // A lent buffer, and the place where its next text goes.
 // kept: no std::fmt::Write or io::Write, whose clauses speak of an Ok alone; what stands here (Put) holds of each call
@@ -36,11 +31,7 @@ impl<'a> Writer<'a> {
     pub fn byte(&mut self, b: u8)
         ensures { Writes self.old (b ∷ []) self.new }
     {
-        let at = self.at;
-        if at < self.out.len() {
-            self.out[at] = b;
-        }
-        self.at = at.saturating_add(1);
+        self.at = crate::place::put_byte(self.out, self.at, b);
     }
 
     // The bytes of a piece.
@@ -56,11 +47,7 @@ impl<'a> Writer<'a> {
     pub fn number(&mut self, n: u32)
         ensures { WritesUpTo self.old (digits_of n) 10 self.new }
     {
-        let one_digit = n < 10;
-        if !one_digit {
-            self.number(n / 10);
-        }
-        self.byte(last_digit(n));
+        self.at = crate::place::put_number(self.out, self.at, n);
     }
 
     // A word and a number.

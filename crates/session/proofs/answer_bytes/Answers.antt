@@ -1,8 +1,5 @@
 -- `answer_bytes`: by cases on the call. Assumes nothing.
-use mathlib.Core.Path.{ap}
 use Rattle.session.proofs.Texts as texts
-use Rattle.journal.specs.SheetCalls.{after_edit, sheet_step}
-use Rattle.sheet.specs.Answer.{edit_refusal_number}
 use Rattle.session.proofs.answer_bytes.Goals as goal
 
 pub returns-in-None : goal.returns-in-None
@@ -12,12 +9,10 @@ pub returns-in-Some-Load : goal.returns-in-Some-Load
 returns-in-Some-Load c = texts.by_call _ _ _ _ _ c.in-Some-Load.is c.in-Some-Load.field-0-is c.call_of.ensures c.answer_load.ensures
 
 pub returns-in-Some-Cut : goal.returns-in-Some-Cut
-unfolding sheet_step
-returns-in-Some-Cut c = texts.by_call _ _ _ _ _ c.in-Some-Cut.is c.in-Some-Cut.field-0-is c.call_of.ensures (texts.answered_edit _ _ _ (ap after_edit c.cut.ensures) (c.after.ensures.left edit_refusal_number) (c.after.ensures.written edit_refusal_number (λ why n h. h)))
+returns-in-Some-Cut c = texts.by_call _ _ _ _ _ c.in-Some-Cut.is c.in-Some-Cut.field-0-is c.call_of.ensures c.answer_cut.ensures
 
 pub returns-in-Some-Back : goal.returns-in-Some-Back
-unfolding sheet_step
-returns-in-Some-Back c = texts.by_call _ _ _ _ _ c.in-Some-Back.is c.in-Some-Back.field-0-is c.call_of.ensures (texts.answered_edit _ _ _ (ap after_edit c.back.ensures) (c.after-in-Some-Back.ensures.left edit_refusal_number) (c.after-in-Some-Back.ensures.written edit_refusal_number (λ why n h. h)))
+returns-in-Some-Back c = texts.by_call _ _ _ _ _ c.in-Some-Back.is c.in-Some-Back.field-0-is c.call_of.ensures c.answer_back.ensures
 
 pub returns-in-Some-ListPoints : goal.returns-in-Some-ListPoints
 returns-in-Some-ListPoints c = texts.by_call _ _ _ _ _ c.in-Some-ListPoints.is c.in-Some-ListPoints.field-0-is c.call_of.ensures c.answer_list.ensures
@@ -29,5 +24,4 @@ pub returns-in-Some-Contents : goal.returns-in-Some-Contents
 returns-in-Some-Contents c = texts.by_call _ _ _ _ _ c.in-Some-Contents.is c.in-Some-Contents.field-0-is c.call_of.ensures (rw c.contents_part.ensures at c.answer_contents.ensures)
 
 pub returns-in-Some-Orient : goal.returns-in-Some-Orient
-unfolding sheet_step
-returns-in-Some-Orient c = texts.by_call _ _ _ _ _ c.in-Some-Orient.is c.in-Some-Orient.field-0-is c.call_of.ensures (texts.answered_edit _ _ _ (ap after_edit c.orient.ensures) (c.after-in-Some-Orient.ensures.left edit_refusal_number) (c.after-in-Some-Orient.ensures.written edit_refusal_number (λ why n h. h)))
+returns-in-Some-Orient c = texts.by_call _ _ _ _ _ c.in-Some-Orient.is c.in-Some-Orient.field-0-is c.call_of.ensures c.answer_orient.ensures

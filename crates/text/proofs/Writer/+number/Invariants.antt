@@ -1,5 +1,0 @@
--- `Writer::number`: the number falls at each call. Assumes nothing.
-use Rattle.text.proofs.Writer.+number.Given as goal
-
-abbrev pub decreases-number : goal.decreases-number
-decreases-number l = l.n
