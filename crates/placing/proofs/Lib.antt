@@ -3,6 +3,7 @@ pub mod Fitting
 pub mod Frames
 pub mod Listed
 pub mod Means
+pub mod NamedPlaced
 pub mod NamedSound
 pub mod Placed
 pub mod Numbers

@@ -172,6 +172,7 @@ fn index_of(points: &[FocusPoint], number: u32) -> Option<usize>
 }
 
 // The points named, in their window, with the primary's index among them. Refused where the primary is not listed.
+#[tactic(auto, using(crate::proofs::NamedPlaced::unlisted, crate::proofs::NamedPlaced::listed))]
 pub fn placed_in(
     window: Window,
     names: Names,
