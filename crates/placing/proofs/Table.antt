@@ -1,9 +1,9 @@
 -- The table's rule, by one computed test over all its rows, and the rule at each row. The idea: the test of a list is the test of its
 -- first row and of the rest. Assumes nothing.
-use Prim.Native.Nat.{ℕ, zero, suc, ◌+◌, ◌<◌}
+use Prim.Native.Nat.{ℕ, zero, suc, ◌+◌, ◌<◌, ◌≤◌}
 use mathlib.Core.Bool.{true, ◌&&◌}
 use mathlib.Core.List.{List, [], ◌∷◌}
-use mathlib.Core.Path.{◌≡◌, refl}
+use mathlib.Core.Path.{◌≡◌, refl, ap, ◌∙◌}
 use native.Mathlib.Nat.{add-zero}
 use native.Mathlib.Omega.{arith}
 use lib.Dec.{eqb}
@@ -41,6 +41,12 @@ row_at i h = row_of 1 points i table_holds h
 pub number_is : (i : ℕ) → i < 39 → (get_or points i no_layout_point).number ≡ 1 + i
 unfolding row_holds
 number_is i h = eqb-true (get_or points i no_layout_point).number (1 + i) (both _ _ (row_at i h)).0
+
+-- so it is one of 1 to 39: it has its own bit in a mask of the points
+pub number_at_lem : (p : FocusLayoutPoint) (i : ℕ) → i < 39 → p ≡ get_or points i no_layout_point → (0 < p.number) × (p.number ≤ 39)
+number_at_lem p i h e =
+    let n : p.number ≡ 1 + i = ap (λ (q : FocusLayoutPoint). q.number) e ∙ number_is i h in
+    (omega arith, omega arith)
 
 -- the point at place i fits each of the windows
 pub record FitsWindows (p : FocusLayoutPoint) : Type 0 where

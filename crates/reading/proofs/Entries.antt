@@ -4,6 +4,7 @@ use mathlib.Core.Path.{◌≡◌, refl, sym, ◌∙◌}
 use mathlib.Core.Bool.{Bool, true, false, cond}
 use mathlib.Core.List.{List}
 use Prim.Native.Nat.{ℕ, zero, suc, ◌+◌, ◌*◌, ◌-◌, ◌≤◌, ◌<◌}
+use native.Mathlib.Nat.{mul-le-mul}
 use native.Mathlib.Numerals.{sub-one}
 use native.Mathlib.Omega.{arith}
 use borrow.Author.Tests.{leb-true}
@@ -58,3 +59,11 @@ directory_within o s = guarded (length s) (offset_of o s + 2) (entry_count o s) 
 pub entries_inside : (o : ByteOrder) (s : List ℕ) (d : Ifd) → directory_of o s ≡ Some d → d.first + 12 * d.count ≤ length s
 unfolding Within
 entries_inside o s d e = rw e at (directory_within o s)
+
+-- a 32-bit count of values of at most a byte's size is far from 64 bits: the length of an entry's value is exact
+pub product_small : (a b : ℕ) → a < 4294967296 → b < 256 → a * b < 1099511627776
+product_small a b ha hb =
+    let ha' : a ≤ 4294967295 = omega arith in
+    let hb' : b ≤ 255 = omega arith in
+    let p : a * b ≤ 4294967295 * 255 = mul-le-mul ha' hb' in
+    omega arith

@@ -2,16 +2,18 @@
 -- the texts of the lines behind it (`all_more`); the claim over lines makes the sheet's texts those of the journal (`all_start`). The
 -- measuring pass counts the text, so that its count tells whether there is room. Assumes nothing.
 use Prim.Native.Nat.{ℕ, ◌<◌, ◌≤◌}
-use mathlib.Core.Path.{◌≡◌}
+use mathlib.Core.Path.{◌≡◌, ap, ◌∙◌}
 use mathlib.Core.Bool.{true, false}
 use mathlib.Core.List.{List, [], ◌∷◌, ◌++◌, flatten}
 use mathlib.Core.Logic.{⊎_elim}
+use lib.Dec.{ltb, leb}
 use lib.ListN.{length}
+use lib.Seq.{sets, length-sets}
 use native.Mathlib.Omega.{arith}
-use borrow.Author.Tests.{lt-ltb, le-ltb, le-leb, lt-leb}
+use borrow.Author.Tests.{lt-ltb, le-ltb, le-leb, lt-leb, leb-true}
 use Rattle.text.specs.declared.Writer.{Writer}
 use Rattle.text.specs.Put.{Put, Writes}
-use Rattle.laws.proofs.Tests.{by_order}
+use Rattle.laws.proofs.Tests.{both, by_bool, by_order}
 use Rattle.text.proofs.Laws as text
 use Rattle.sheet.specs.declared.Sheet.{Sheet}
 use Rattle.sheet.specs.Sheet.{fresh_sheet}
@@ -77,3 +79,21 @@ module _ (t o z z₁ : List ℕ) (n : ℕ) (p : Put z 0 t z₁ n) where
         let room : room_for t o ≡ true =
         rw (lt-ltb (length t) 18446744073709551615 counted) (le-leb (length t) (length o) (omega (arith, exact, h))) in
         (rw (room, exact), rw room q.laid)
+
+-- for a caller of `answer`: a text that was written has its length in the buffer
+pub fits : (t o o₁ : List ℕ) (n : ℕ) → Some n ≡ answered_with t o → o₁ ≡ buffer_with t o → n ≤ length o₁
+unfolding answered_with buffer_with
+fits t o o₁ n e f =
+    ⊎_elim
+    (λ (h : room_for t o ≡ true).
+    let k : Some n ≡ Some (length t) = e ∙ rw h in
+    let l : n ≡ length t = cc in
+    let m : length t ≤ length o = leb-true (length t) (length o) (both (ltb (length t) 18446744073709551615) (leb (length t) (length o)) h).1 in
+    let g : o₁ ≡ sets o 0 t = f ∙ rw h in
+    let p : length o₁ ≡ length o = ap length g ∙ length-sets o 0 t in
+    omega arith)
+    (λ (h : room_for t o ≡ false).
+    let k : Some n ≡ None = e ∙ rw h in
+    let y : ◌≡◌ {A = ℕ} 0 1 = cc in
+    absurd (omega arith))
+    (by_bool (room_for t o))

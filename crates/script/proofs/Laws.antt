@@ -6,7 +6,7 @@ use mathlib.Core.Bool.{Bool, true, false, true≢false}
 use Rattle.std.specs.Borrow.{Bor}
 use Rattle.std.specs.Prelude.{Option, Some, None}
 use Rattle.std.specs.Option.{MatchOption, unwrap_or}
-use Rattle.std.specs.List.{AllWithin, IsFirstMatchOrLen}
+use Rattle.std.specs.List.{AllWithin, IsFirstMatchOrLen, position_or_len}
 use mathlib.Core.List.{List, [], ◌∷◌, ◌++◌, append-nil, append_assoc, flatten}
 use mathlib.Core.Logic.{⊎_elim, ◌⊎◌, inl, inr}
 use lib.Dec.{eqb}
@@ -44,6 +44,21 @@ lines_last l (c ∷ line) h g =
 -- ---- how the library splits a script: up to a feed, with it, or to the end
 abbrev pub is_feed : ℕ → Bool
 is_feed c = eqb c 10
+
+-- a script that is not empty starts with a line, behind what was read of it before, `l`: up to the first feed, or to the end. The rest
+-- follows behind it
+pub lines_first : (s l : List ℕ) → 0 < length l + length s
+    → lines_from l s ≡ (l ++ take (position_or_len is_feed s) s) ∷ lines_from [] (drop (suc (position_or_len is_feed s)) s)
+unfolding lines_from
+lines_first [] l h = rw (ne_eqb (length l) 0 (λ e. omega arith), append-nil l)
+lines_first (c ∷ s) l h =
+    ⊎_elim
+    (λ (e : eqb c 10 ≡ true). rw (e, append-nil l))
+    (λ (e : eqb c 10 ≡ false).
+    let n : 1 + position_or_len is_feed s ≡ suc (position_or_len is_feed s) = omega arith in
+    rw (e, n)
+    (lines_first s (l ++ (c ∷ [])) (omega (arith, length-append l (c ∷ []))) ∙ rw (append_assoc l (c ∷ []) (take (position_or_len is_feed s) s))))
+    (by_bool (eqb c 10))
 
 no_feed : (l : List ℕ) → ((k : ℕ) → k < length l → is_feed (get_or l k 0) ≡ false) → NoFeed l
 unfolding NoFeed

@@ -4,7 +4,8 @@ ghost use Rattle.placing.specs.Fit.{swapped};
 ghost use Rattle.sheet.specs.Orientation.{orientation_number, StandsFor, oriented_by};
 ghost use Rattle.sheet.specs.Inside.{placed_upright, placed_across};
 
-use placing::focus::{FocusPoint, Framed};
+use placing::focus::FocusPoint;
+pub use placing::focus::Framed;
 use reading::geometry::{Point, Size};
 
 // How a picture is brought upright, by Exif's numbers 1 to 8 in this order. Rotations are clockwise; a transposed picture is mirrored

@@ -81,6 +81,10 @@ one_more s i g p q = rw (add-one, take-suc s i 0 g) (and_then p q)
 pub put_room : {o o₁ t : List ℕ} {a a₁ : ℕ} → Put o a t o₁ a₁ → a + length t ≤ length o → a₁ ≡ a + length t
 put_room p h = p.place ∙ min-eq_left (omega (arith, p.counted))
 
+-- so of a text of m characters at the most a caller knows how far it gets, with room or without
+pub puts_place : {o o₁ t : List ℕ} {a a₁ m : ℕ} → Put o a t o₁ a₁ → length t ≤ m → a₁ ≤ a + m
+puts_place p h = omega (arith, p.place, h)
+
 -- ---- on the way to a whole text: what is written, and what is left of it
 pub record Going (w₀ : Writer) (whole : List ℕ) (w : Writer) (rest : List ℕ) : Type 0 where
   pub written : List ℕ
