@@ -1,17 +1,39 @@
 -- Laws of call lines: what the library's methods tell of digits and sums, a line's test, the bytes up to a place, and what decoding
 -- answers. Assumes nothing.
-use Rattle.std.proofs.Common.{◌≡◌, ℕ, ◌+◌, ◌*◌, ◌/◌, ◌%◌, ◌<◌, ◌≤◌, Bool, true, false, not, List, [], ◌∷◌, ◌++◌, length, get_or, set, sym, refl, ◌∙◌, ⊎_elim, add-one, arith, le-ltb, lt-ltb, eq-eqb, ne_eqb, le-leb, Option, Some, None, SomeIff, unwrap_or, fold, IsTrue, ◌↔◌}
-use mathlib.Core.Bool.{false≢true}
-use lib.Seq.{sets}
+use Rattle.std.proofs.Common.{◌≡◌, ℕ, ◌+◌, ◌*◌, ◌/◌, ◌%◌, ◌<◌, ◌≤◌, ◌-◌, Bool, true, false, not, List, [], ◌∷◌, ◌++◌, length, get_or, set, sym, refl, ◌∙◌, ⊎_elim, add-one, arith, le-ltb, lt-ltb, eq-eqb, ne_eqb, le-leb, leb-true, fold}
+use mathlib.Core.Bool.{false≢true, ◌&&◌}
+use Rattle.std.specs.Prelude.{nat_lt}
+use lib.Seq.{sets, drop-cons}
+use lib.ListN.{drop, drop_of_length-le}
 use borrow.Author.Tests.{lt-leb, not-true, not-false}
-use Rattle.laws.proofs.Tests.{by_bool, by_cond, by_order}
+use Rattle.laws.proofs.Tests.{both, by_order}
 use Rattle.reading.specs.Outcome.{refused, accepted}
-use Rattle.std.specs.Char.{is_ascii_hexdigit, digit_value}
-use Rattle.std.specs.List.{list_all, AllPass}
-use Rattle.std.proofs.lemmas.List.Sums.{list_all-from_AllPass, AllPass-from_list_all}
-use Rattle.hex_lines.specs.Hex.{within, digit_of, is_hex_digit, sum, all_digits, well_formed, half_of, bytes_of, decoded_of, buffer_of}
+use Rattle.hex_lines.specs.Hex.{within, digit_of, sum, all_digits, well_formed, half_of, bytes_of, decoded_of, buffer_of}
 
 -- ---- a digit
+-- a character within a range is not below it
+pub within_low : (low high c : ℕ) (r : Bool) → r ≡ within low high c → r ≡ true → low ≤ c
+within_low low high c r e h = leb-true low c (both _ _ (sym e ∙ h)).0
+
+module _ (c : ℕ) (r : Bool) (er : r ≡ within 48 57 c) where
+  pub digit_decimal : r ≡ true → c - 48 ≡ digit_of c
+  unfolding digit_of
+  digit_decimal h = rw (← er, h)
+
+  module _ (n : r ≡ false) (s : Bool) (es : s ≡ within 65 70 c) where
+    pub digit_upper : s ≡ true → c - 65 + 10 ≡ digit_of c
+    unfolding digit_of
+    digit_upper h = rw (← er, n, ← es, h) (omega (arith, within_low 65 70 c s es h))
+
+    module _ (m : s ≡ false) (t : Bool) (et : t ≡ within 97 102 c) where
+      pub digit_lower : t ≡ true → c - 97 + 10 ≡ digit_of c
+      unfolding digit_of
+      digit_lower h = rw (← er, n, ← es, m, ← et, h) (omega (arith, within_low 97 102 c t et h))
+
+      pub digit_none : t ≡ false → 16 ≡ digit_of c
+      unfolding digit_of
+      digit_none h = rw (← er, n, ← es, m, ← et, h)
+
 module _ (c v : ℕ) (e : v ≡ digit_of c) where
   pub half_in : v < 16 → v ≡ half_of c
   unfolding half_of
@@ -21,42 +43,22 @@ module _ (c v : ℕ) (e : v ≡ digit_of c) where
   unfolding half_of
   half_out h = rw (← e, le-ltb v 16 h)
 
--- ---- what the library's methods tell
-digit_told : (c : ℕ) → is_ascii_hexdigit c ≡ is_hex_digit c
-unfolding digit_of
-digit_told c = grind arith
-
-digits_listed : (s : List ℕ) → list_all is_ascii_hexdigit s ≡ all_digits s
+-- ---- digits from a place on
+pub digits_more : (s : List ℕ) (i : ℕ) → i < length s → (v : ℕ) → v ≡ digit_of (get_or s i 0) → (b : Bool) → all_digits s ≡ b && all_digits (drop i s)
+    → all_digits s ≡ (b && nat_lt v 16) && all_digits (drop (i + 1) s)
 unfolding all_digits
-digits_listed [] = refl
-digits_listed (c ∷ s) = rw (digit_told c, digits_listed s)
+digits_more s i h v e true p = rw (add-one, e) (p ∙ rw (drop-cons s i 0 h))
+digits_more s i h v e false p = p
 
-pub digits_told : (s : List ℕ) (r : Bool) → (IsTrue r ↔ AllPass is_ascii_hexdigit s) → r ≡ all_digits s
-digits_told s true h = sym (list_all-from_AllPass is_ascii_hexdigit s (h.0 refl)) ∙ digits_listed s
-digits_told s false h =
-    ⊎_elim
-    (λ (e : list_all is_ascii_hexdigit s ≡ true). absurd (false≢true (h.1 (AllPass-from_list_all is_ascii_hexdigit s e))))
-    (λ (e : list_all is_ascii_hexdigit s ≡ false). sym e ∙ digits_listed s)
-    (by_bool (list_all is_ascii_hexdigit s))
+pub digits_done : (s : List ℕ) (i : ℕ) → length s ≤ i → all_digits (drop i s) ≡ true
+unfolding all_digits
+digits_done s i h = rw (drop_of_length-le s h)
 
-value_some : (c : ℕ) → digit_value c < 16 → digit_value c ≡ digit_of c
-unfolding digit_of
-value_some c h = grind arith
+pub digits_all : (s : List ℕ) (i : ℕ) → length s ≤ i → (b : Bool) → all_digits s ≡ b && all_digits (drop i s) → b ≡ all_digits s
+digits_all s i h true p = sym (p ∙ digits_done s i h)
+digits_all s i h false p = sym p
 
-value_none : (c : ℕ) → 16 ≤ digit_value c → 16 ≤ digit_of c
-unfolding digit_of
-value_none c h =
-    by_cond (λ v. 16 ≤ v) (within 48 57 c)
-    (λ e. grind arith)
-    (λ n. by_cond (λ v. 16 ≤ v) (within 65 70 c) (λ e. grind arith)
-    (λ m. by_cond (λ v. 16 ≤ v) (within 97 102 c) (λ e. grind arith) (λ e. omega arith)))
-
-pub half_told : (c : ℕ) (v : Option ℕ) → SomeIff v (digit_value c < 16) (digit_value c) → unwrap_or v 0 ≡ half_of c
-half_told c None h = half_out c (digit_of c) refl (value_none c (omega (arith, h)))
-half_told c (Some v) h =
-    let e : v ≡ digit_of c = h.1 ∙ value_some c h.0 in
-    half_in c v e (omega (arith, h.0, h.1))
-
+-- ---- what the library's method tells
 pub sum_told : (s : List ℕ) (t : ℕ) → t < 256 → fold (λ t b. (t + b) % 256) t s ≡ (t + sum s) % 256
 unfolding sum
 sum_told [] t h = grind arith

@@ -71,8 +71,8 @@ fn answer_fit(sheet: &Sheet, size: Size, out: &mut Writer)
     put_list(out, answer, &words);
 }
 
-// The sheet after load, cut, orient or back, and the answer's line: refused, the sheet is as it was. The four that call it stay functions of
-// their own: what a result of a sheet takes is then cleared for a line that has one, and not for every line.
+// The sheet after load, cut, orient or back, and the answer's line: refused, the sheet is as it was. The four that call it stay functions
+// of their own: what a result of a sheet takes is then cleared for a line that has one, and not for every line.
 fn after<E: Into<u32> + Copy>(sheet: &mut Sheet, ended: Result<Sheet, E>, out: &mut Writer)
     ensures left { (number : E → ℕ) → sheet.new ≡ (ends number sheet.old ended).1 }
     ensures written { (number : E → ℕ) → ((why : E) (n : ℕ) → E.converts why n → n ≡ number why) → WritesUpTo out.old (answer_text (after_edit (ends number sheet.old ended)).0) most_text out.new }

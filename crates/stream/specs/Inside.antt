@@ -1,5 +1,5 @@
--- What the functions inside `stream` promise each other; nobody else need read it. A line is held character by character
--- (`CharsTaken`), up to a feed or the piece's end (`RunTaken`), and answered where a feed ends it (`LineTaken`).
+-- What the functions inside `stream` promise each other; nobody else need read it. A line is held up to a feed or the piece's end
+-- (`RunTaken`), as if character by character (`CharKept`, `CharsTaken`), and answered where a feed ends it (`LineTaken`).
 use Rattle.std.specs.Prelude.{ℕ, ◌+◌, ◌<◌, ◌≤◌, List, [], ◌++◌, ◌≡◌, length, take, drop, get_or, set}
 use Rattle.text.specs.Put.{Put}
 use Rattle.sheet.specs.declared.Sheet.{Sheet}

@@ -1,11 +1,9 @@
--- `all_digits`: what the chain tests. Assumes nothing.
-use Rattle.std.proofs.Common.{rules, IsTrue, ◌↔◌}
-use Rattle.std.specs.List.{AllPass}
-use Rattle.std.specs.Char.{is_ascii_hexdigit}
-use Rattle.hex_lines.proofs.Laws.{digits_told}
+-- `all_digits`: one more character. Assumes nothing.
+use Rattle.hex_lines.proofs.Laws as laws
 use Rattle.hex_lines.proofs.all_digits.Goals as goal
 
+pub loop-c-preserved : goal.loop-c-preserved
+loop-c-preserved c = laws.digits_more _ _ c.loop-c-test.true _ c.digit_of.ensures _ c.loop-c.invariant
+
 pub returns : goal.returns
-returns c =
-    let e : IsTrue c.all.result ↔ AllPass is_ascii_hexdigit c.args.line.now = search rules in
-    digits_told c.args.line.now c.all.result e
+returns c = laws.digits_all _ _ c.loop-c-test.false _ c.loop-c.invariant
