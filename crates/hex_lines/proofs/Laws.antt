@@ -1,5 +1,5 @@
--- Laws of call lines: what the library's methods tell of digits and sums, a line's test, the bytes up to a place, and what decoding
--- answers. Assumes nothing.
+-- Laws of call lines: a digit's value by the tests of the code, digits from a place on, what the library's method tells of a sum, a
+-- line's test, the bytes up to a place, and what decoding answers. Assumes nothing.
 use Rattle.std.proofs.Common.{◌≡◌, ℕ, ◌+◌, ◌*◌, ◌/◌, ◌%◌, ◌<◌, ◌≤◌, ◌-◌, Bool, true, false, not, List, [], ◌∷◌, ◌++◌, length, get_or, set, sym, refl, ◌∙◌, ⊎_elim, add-one, arith, le-ltb, lt-ltb, eq-eqb, ne_eqb, le-leb, leb-true, fold}
 use mathlib.Core.Bool.{false≢true, ◌&&◌}
 use Rattle.std.specs.Prelude.{nat_lt}
